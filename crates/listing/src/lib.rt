@@ -1,0 +1,3 @@
+// The listing of a configuration as rows of text.
+mod operand;
+pub mod rows;

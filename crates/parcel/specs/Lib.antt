@@ -1,0 +1,5 @@
+pub mod Verdicts
+pub mod Contents
+pub mod Lines
+pub mod Parcel
+pub mod Trial
