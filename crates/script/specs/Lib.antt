@@ -1,0 +1,5 @@
+pub mod Verbs
+pub mod Commands
+pub mod Complaints
+pub mod Replies
+pub mod Journals
