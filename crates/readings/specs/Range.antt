@@ -3,6 +3,7 @@ use mathlib.Core.Bool.{Bool, cond, _&&_}
 use Prim.Native.Nat.{ℕ}
 use lib.IntN.{ℤ, pos, negsuc, negℤ}
 use lib.Signed.{_≤ℤ_, leZ}
+use Rattle.std.specs.Numbers.{minZ, maxZ}
 use Rattle.std.specs.declared.option.Option.{Option}
 use Rattle.std.specs.declared.option.Option.the-variants.{Some, None}
 
@@ -21,6 +22,14 @@ InRange z = (lowest ≤ℤ z) × (z ≤ℤ highest)
 -- the reading that a number is, if it is one
 abbrev pub readable : ℤ → Option ℤ
 readable z = cond (leZ lowest z && leZ z highest) (Some z) None
+
+-- a number brought between two others
+abbrev pub clamped : (low high : ℤ) → ℤ → ℤ
+clamped low high z = maxZ low (minZ z high)
+
+-- limited: brought into ±31984, which is 199.9 %
+unfoldable pub limit : ℤ → ℤ
+limit z = clamped (negsuc 31983) (pos 31984) z
 
 -- a magnitude with its sign
 abbrev pub signedBy : Bool → ℕ → ℤ

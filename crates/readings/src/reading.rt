@@ -1,8 +1,12 @@
 // Readings: whole numbers of 1/160 percent, so 16000 is 100.0 %.
-ghost use Rattle.readings.specs.Range.{InRange, readable, signedBy};
+ghost use Rattle.readings.specs.Range.{InRange, clamped, highest, limit, lowest, readable, signedBy};
 ghost use Rattle.std.specs.Options.{mapped};
 ghost use Prim.Native.Nat.{_<_};
 ghost use mathlib.Core.Path.{_≡_};
+
+const LEAST: i32 = -32767;
+
+const GREATEST: i32 = 32767;
 
 #[derive(Clone, Copy, PartialEq, Eq, Debug)]
 pub struct Reading {
@@ -15,12 +19,31 @@ impl Reading {
     pub fn new(value: i32) -> Option<Reading>
         ensures { λ r. ⌜ mapped (λ x. x .value) r ≡ readable value ⌝ }
     {
-        if value < -32767 || value > 32767 {
+        if value < LEAST || value > GREATEST {
             return None;
         }
         Some(Reading {
             value: value as i16,
         })
+    }
+
+    // The reading nearest to any number.
+    pub fn nearest(value: i32) -> Reading
+        ensures value { λ r. ⌜ r .value ≡ clamped lowest highest value ⌝ }
+        ensures same { λ r. ⌜ (InRange value → r .value ≡ value) ⌝ }
+    {
+        Reading {
+            value: value.clamp(LEAST, GREATEST) as i16,
+        }
+    }
+
+    // Any number, brought into ±199.9 %.
+    pub fn limited(value: i32) -> Reading
+        ensures { λ r. ⌜ r .value ≡ limit value ⌝ }
+    {
+        Reading {
+            value: value.clamp(-31984, 31984) as i16,
+        }
     }
 
     pub fn value(self) -> i32

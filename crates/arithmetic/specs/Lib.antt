@@ -1,0 +1,4 @@
+pub mod Quotients
+pub mod Operations
+pub mod Switches
+pub mod Tables

@@ -1,0 +1,2 @@
+// The sample values that every build of the controller has to give.
+pub mod samples;

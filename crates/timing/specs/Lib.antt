@@ -1,0 +1,4 @@
+pub mod Ramps
+pub mod Divisors
+pub mod Remainders
+pub mod Sums
