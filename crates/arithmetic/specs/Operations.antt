@@ -9,23 +9,25 @@ use Rattle.arithmetic.specs.declared.operation.Operation.the-variants.{Abs, In
 use Rattle.readings.specs.Range.{limit}
 use Rattle.arithmetic.specs.Quotients.{quotient, root}
 
+-- ADD
 abbrev pub sum : ℤ → ℤ → ℤ
 sum a b = limit (a +ℤ b)
 
+-- SUB
 abbrev pub difference : ℤ → ℤ → ℤ
 difference a b = limit (a -ℤ b)
 
--- 16000 is 100 %
+-- MUL, where 16000 is 100 %
 abbrev pub product : ℤ → ℤ → ℤ
 product a b = limit (quotient (a *ℤ b) (pos 16000))
 
--- by 0: 0, or the limit with the sign of a
+-- DIV; by 0: 0, or the limit with the sign of a
 abbrev pub ratio : ℤ → ℤ → ℤ
 ratio a (pos zero) = signZ a *ℤ pos 31984
 ratio a (pos (suc n)) = limit (quotient (a *ℤ pos 16000) (pos (suc n)))
 ratio a (negsuc n) = limit (quotient (a *ℤ pos 16000) (negsuc n))
 
--- the whole root of the magnitude times 16000, with the sign of a
+-- RAD: the whole root of the magnitude times 16000, with the sign of a
 abbrev pub squareRoot : ℤ → ℤ
 squareRoot (pos n) = pos (root (n * 16000))
 squareRoot (negsuc n) = negℤ (pos (root (suc n * 16000)))
@@ -49,6 +51,7 @@ numerator Times40 = pos 40
 numerator Times50 = pos 50
 numerator Times100 = pos 100
 
+-- and the denominator
 abbrev pub denominator : Factor → ℤ
 denominator Tenth = pos 10
 denominator Eighth = pos 8
@@ -67,6 +70,7 @@ denominator Times40 = pos 1
 denominator Times50 = pos 1
 denominator Times100 = pos 1
 
+-- the factors
 abbrev pub scaled : Factor → ℤ → ℤ
 scaled f a = limit (quotient (a *ℤ numerator f) (denominator f))
 

@@ -23,5 +23,6 @@ unfoldable pub rootFrom : ℕ → ℕ → ℕ → ℕ
 rootFrom zero n r = r
 rootFrom (suc k) n r = rootFrom k n (cond (leb ((r + 2 ^ k) * (r + 2 ^ k)) n) (r + 2 ^ k) r)
 
+-- so from 0, by the powers below 2 ^ 16
 unfoldable pub root : ℕ → ℕ
 root n = rootFrom 16 n 0

@@ -18,6 +18,7 @@ use Rattle.commands.specs.declared.command.Binary.the-variants as bit
 use Rattle.commands.specs.declared.command.Analog.{Analog}
 use Rattle.commands.specs.declared.command.Analog.the-variants as an
 
+-- a first code, and the commands from there on
 abbrev pub Block : Type 0 → Type 0
 Block X = ℕ × List X
 
@@ -26,15 +27,17 @@ abbrev pub decoded : {X : Type 0} → List (Block X) → ℕ → Option X
 decoded [] c = None
 decoded (b ∷ bs) c = cond (leb (b .0) c && ltb c (b .0 + length (b .1))) (nth (b .1) (c - b .0)) (decoded bs c)
 
--- factors, rates and divisors in the order of their codes
+-- factors in the order of their codes
 abbrev pub factors : List Factor
 factors =
     Tenth ∷ Eighth ∷ Fifth ∷ Quarter ∷ Third ∷ Half ∷ Times2 ∷ Times3 ∷ Times4 ∷ Times5 ∷ Times8 ∷ Times10
     ∷ Times20 ∷ Times40 ∷ Times50 ∷ Times100 ∷ []
 
+-- rates in the order of their codes
 abbrev pub rates : List Rate
 rates = T2 ∷ T4 ∷ T8 ∷ T16 ∷ T50 ∷ T100 ∷ T200 ∷ T400 ∷ T1000 ∷ T2000 ∷ T4000 ∷ T8000 ∷ []
 
+-- divisors in the order of their codes
 abbrev pub divisors : List Divisor
 divisors = D10 ∷ D40 ∷ D100 ∷ D250 ∷ D1200 ∷ D4800 ∷ D12000 ∷ D30000 ∷ []
 

@@ -28,6 +28,7 @@ writtenAs w (Some p) = Number p
 abbrev pub writtenOf : Word → Written
 writtenOf w = writtenAs w (percentOf (wordReading (bitsOf w)))
 
+-- a percentage, or two bytes, the low one first
 abbrev pub wordText : Written → List ℕ
 wordText (Number p) = percentText p
 wordText (Bytes w) = byteText (w .low) ++ (codes ", " ++ byteText (w .high))
@@ -44,6 +45,7 @@ abbrev pub constantText : Written → List ℕ
 constantText (Number p) = codes "#" ++ percentText p
 constantText (Bytes w) = wordText (Bytes w)
 
+-- what is written of the operands
 abbrev pub operandText : Operand → List ℕ
 operandText (One a) = byteText a
 operandText (Two a b) = byteText a ++ (codes ", " ++ byteText b)

@@ -33,9 +33,11 @@ abbrev pub entryText : (address : ℕ) (name : List ℕ) → Option Operand → 
 entryText a name None = []
 entryText a name (Some o) = rowText a name o ++ codes "\n"
 
+-- a binary line's row
 abbrev pub binaryText : (address : ℕ) → BinaryLine → List ℕ
 binaryText a l = entryText a (binaryName (l .command)) (operandOf (binaryOperands (l .command)) (l .sr1) (l .sr2))
 
+-- an analog line's row
 abbrev pub analogText : (address : ℕ) → AnalogLine → List ℕ
 analogText a l = entryText a (analogName (l .command)) (operandOf (analogOperands (l .command)) (l .sr1) (l .sr2))
 
@@ -49,9 +51,11 @@ lineText c a =
 abbrev pub tableRowText : (place : ℕ) → Word → List ℕ
 tableRowText i w = codes "TABLE " ++ (decimal (i / 10) ++ (decimal (i % 10) ++ (codes " : " ++ wordText (writtenOf w))))
 
+-- a point's row with its newline
 abbrev pub pointText : List Word → (place : ℕ) → List ℕ
 pointText ws i = tableRowText i (getD ws i (record { low = 0; high = 0 })) ++ codes "\n"
 
+-- all 17 points, if there is a table
 abbrev pub tableText : Option (List Word) → List ℕ
 tableText None = []
 tableText (Some ws) = upTo (pointText ws) 17

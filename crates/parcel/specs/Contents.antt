@@ -33,6 +33,7 @@ lawful (e ∷ es) = (not (eqb (e .kind) 0) && leb (e .kind) 4) && (not (present 
 abbrev pub sizeOf : ℕ → ℕ
 sizeOf k = cond (eqb k 4) 34 256
 
+-- each body has its length
 abbrev pub sized : List Entry → Bool
 sized [] = true
 sized (e ∷ es) = eqb (e .size) (sizeOf (e .kind)) && sized es
@@ -47,6 +48,7 @@ abbrev pub begins : ℕ → List Entry → ℕ → ℕ
 begins k [] from = from
 begins k (e ∷ es) from = cond (eqb (e .kind) k) from (begins k es (from + e .size))
 
+-- kinds 1, 2 and 3 are there, and no kind is unknown or twice
 abbrev pub kindsLawful : List Entry → Bool
 kindsLawful es = (present 1 es && (present 2 es && present 3 es)) && lawful es
 
@@ -55,6 +57,7 @@ abbrev pub bodiesAsked : List Entry → (from n : ℕ) → Verdict
 bodiesAsked es from n =
     question 13 None (kindsLawful es) then question 14 None (sized es) then question 15 None (eqb (ends es from) n)
 
+-- where each body begins
 abbrev pub placesOf : List Entry → (from : ℕ) → Directory
 placesOf es from = record {
   codes = begins 1 es from;
@@ -67,6 +70,7 @@ placesOf es from = record {
 abbrev pub listEnd : List ℕ → ℕ
 listEnd p = 1 + 3 * getD p 0 0
 
+-- the entries that the first byte counts
 abbrev pub listed : List ℕ → List Entry
 listed p = entries p (getD p 0 0)
 
@@ -86,6 +90,7 @@ abbrev pub FitsAt : Option ℕ → ℕ → Type 0
 FitsAt (Some at) n = at + 34 ≤ n
 FitsAt None n = Unit {0}
 
+-- and so of all bodies
 pub record Within (d : Directory) (n : ℕ) : Type 0 where
   pub codes : d .codes + 256 ≤ n
   pub sr1 : d .sr1 + 256 ≤ n

@@ -34,6 +34,7 @@ abbrev pub commandAsked : Bool → (line : ℕ) → LineBytes → Option Analog 
 commandAsked table a b None = refused 21 (Some a)
 commandAsked table a b (Some x) = required table a b (requirementOf x)
 
+-- an analog line
 abbrev pub analogAsked : Bool → (line : ℕ) → LineBytes → Verdict
 analogAsked table a b = commandAsked table a b (analogOf (b .code))
 
@@ -45,6 +46,7 @@ lineAsked table a b = cond (ltb a 0x40) (question 21 (Some a) (isSome (binaryOf 
 abbrev pub bytesAt : List ℕ → Directory → (line : ℕ) → LineBytes
 bytesAt p d a = record { code = getD p (d .codes + a) 0; sr1 = getD p (d .sr1 + a) 0; sr2 = getD p (d .sr2 + a) 0 }
 
+-- the line at an address of a parcel
 abbrev pub lineAt : List ℕ → Directory → (line : ℕ) → Verdict
 lineAt p d a = lineAsked (isSome (d .table)) a (bytesAt p d a)
 

@@ -36,10 +36,11 @@ analogLine p d i =
       sr2 = bytesAt p d (0x40 + i) .sr2;
     }
 
--- the first n lines of a side
+-- the first n binary lines
 unfoldable pub binaryLines : List ℕ → Directory → ℕ → List BinaryLine
 binaryLines p d n = map (binaryLine p d) (counting 0 n)
 
+-- the first n analog lines
 unfoldable pub analogLines : List ℕ → Directory → ℕ → List AnalogLine
 analogLines p d n = map (analogLine p d) (counting 0 n)
 
@@ -47,6 +48,7 @@ analogLines p d n = map (analogLine p d) (counting 0 n)
 abbrev pub wordAt : List ℕ → (at i : ℕ) → Word
 wordAt p at i = record { low = getD p (at + 2 * i) 0; high = getD p (at + 2 * i + 1) 0 }
 
+-- the first n words
 unfoldable pub wordsAt : List ℕ → (at n : ℕ) → List Word
 wordsAt p at n = map (wordAt p at) (counting 0 n)
 

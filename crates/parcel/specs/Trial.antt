@@ -13,15 +13,17 @@ use Rattle.parcel.specs.Parcel.{asked}
 abbrev pub placesIn : Directory → (line : ℕ) → Places
 placesIn d a = record { code = d .codes + a; sr1 = d .sr1 + a; sr2 = d .sr2 + a }
 
+-- they stand within n bytes
 pub record Inside (at : Places) (n : ℕ) : Type 0 where
   pub code : at .code < n
   pub sr1 : at .sr1 < n
   pub sr2 : at .sr2 < n
 
--- the three bytes, and a parcel with others in their places
+-- the three bytes
 abbrev pub lineIn : List ℕ → Places → LineBytes
 lineIn p at = record { code = getD p (at .code) 0; sr1 = getD p (at .sr1) 0; sr2 = getD p (at .sr2) 0 }
 
+-- a parcel with others in their places
 abbrev pub withLine : List ℕ → Places → LineBytes → List ℕ
 withLine p at l = set (set (set p (at .code) (l .code)) (at .sr1) (l .sr1)) (at .sr2) (l .sr2)
 

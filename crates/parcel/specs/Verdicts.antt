@@ -8,6 +8,7 @@ use Rattle.std.specs.declared.option.Option.the-variants.{Some, None}
 use Rattle.std.specs.declared.result.Result.{Result}
 use Rattle.std.specs.declared.result.Result.the-variants.{Ok, Err}
 
+-- taken, or refused
 pub data Verdict : Type 0 where
   taken : Verdict
   refused : (number : ℕ) (address : Option ℕ) → Verdict

@@ -1,5 +1,6 @@
 -- The range of readings. Every bound on a reading comes from these two numbers.
-use mathlib.Core.Bool.{Bool, cond, _&&_}
+use mathlib.Core.Bool.{Bool, true, cond, _&&_}
+use mathlib.Core.List.{List, [], _∷_}
 use Prim.Native.Nat.{ℕ}
 use lib.IntN.{ℤ, pos, negsuc, negℤ}
 use lib.Signed.{_≤ℤ_, leZ}
@@ -19,9 +20,18 @@ highest = pos 32767
 abbrev pub InRange : ℤ → Type 0
 InRange z = (lowest ≤ℤ z) × (z ≤ℤ highest)
 
+-- the same, as a test
+abbrev pub isReading : ℤ → Bool
+isReading z = leZ lowest z && leZ z highest
+
+-- every number of a list is a reading
+abbrev pub areReadings : List ℤ → Bool
+areReadings [] = true
+areReadings (z ∷ zs) = isReading z && areReadings zs
+
 -- the reading that a number is, if it is one
 abbrev pub readable : ℤ → Option ℤ
-readable z = cond (leZ lowest z && leZ z highest) (Some z) None
+readable z = cond (isReading z) (Some z) None
 
 -- a number brought between two others
 abbrev pub clamped : (low high : ℤ) → ℤ → ℤ

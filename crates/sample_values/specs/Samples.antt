@@ -29,6 +29,7 @@ abbrev pub run : ℕ → (value rest : ℤ → ℤ → ℤ) → ℤ → ℤ → 
 run zero value rest b m = m ∷ []
 run (suc n) value rest b m = value b m ∷ run n value rest (value b m) (rest b m)
 
+-- what each command and word gives
 pub record Samples : Type 0 where
   pub word-plus : wordReading 0xBE80 ≡ pos 16000
   pub word-minus : wordReading 0x3E80 ≡ negsuc 15999

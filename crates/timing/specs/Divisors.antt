@@ -7,6 +7,7 @@ use Rattle.std.specs.declared.option.Option.the-variants.{Some, None}
 use Rattle.readings.specs.declared.settings.Divisor.{Divisor}
 use Rattle.readings.specs.declared.settings.Divisor.the-variants.{D10, D40, D100, D250, D1200, D4800, D12000, D30000}
 
+-- the number D of a divisor
 abbrev pub divisor : Divisor → ℤ
 divisor D10 = pos 10
 divisor D40 = pos 40

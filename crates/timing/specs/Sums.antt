@@ -22,13 +22,16 @@ abbrev pub Unlimited : ℤ → List ℤ → ℤ → ℤ → Type 0
 Unlimited d [] b m = Unit {0}
 Unlimited d (a ∷ xs) b m = (beyond (unlimited d a b m) ≡ false) × Unlimited d xs (integrated d a b m) (integratedRest d a b m)
 
+-- the sum of the inputs
 abbrev pub total : List ℤ → ℤ
 total [] = pos 0
 total (a ∷ xs) = a +ℤ total xs
 
+-- what an integrator has gained is what it was given
 pub record Balance (d : ℤ) (xs : List ℤ) (b m : ℤ) : Type 0 where
   pub sum : valueAfter d xs b m *ℤ d +ℤ restAfter d xs b m ≡ b *ℤ d +ℤ m +ℤ total xs
   pub small : Below d (restAfter d xs b m)
 
+-- so for every divisor, inputs, value and remainder
 abbrev pub SumLaw : Type 0
 SumLaw = (d : Divisor) (xs : List ℤ) (b m : ℤ) → Below (divisor d) m → Unlimited (divisor d) xs b m → Balance (divisor d) xs b m

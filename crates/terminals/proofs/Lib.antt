@@ -1,0 +1,4 @@
+pub mod ListLaws
+pub mod StageLaws
+pub mod PlantLaws
+pub mod StackLaws
