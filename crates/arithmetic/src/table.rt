@@ -1,6 +1,6 @@
 // The table: seventeen points at the inputs 0, 1024, .., 16384, and straight lines between them.
 ghost use Prim.Native.Nat.{_<_};
-ghost use Rattle.arithmetic.specs.Quotients.{Small, quotient as quotientZ};
+ghost use Rattle.arithmetic.specs.Quotients.{QuotientLaw, Small, quotient as quotientZ};
 ghost use Rattle.arithmetic.specs.Tables.{Gap, interpolated, pointOf};
 ghost use lib.IntN.{pos, _*ℤ_, _+ℤ_, _-ℤ_};
 ghost use mathlib.Core.Path.{_≡_};
@@ -39,9 +39,10 @@ fn between(low: Reading, high: Reading, r: u32) -> Reading
     Reading::nearest(low.value() + quotient(steps(gap(low, high), r), 1024))
 }
 
-// TA0: an input outside the points is taken as the nearer end.
+// TA0: an input outside the points is taken as the nearer end. The quotient in it, as in every command, is off by less than 1.
 pub fn interpolate(words: &[Word; 17], a: Reading) -> Reading
-    ensures { λ r. ⌜ r .value ≡ interpolated (pointOf (now (words .entry))) (a .value) ⌝ }
+    ensures value { λ r. ⌜ r .value ≡ interpolated (pointOf (now (words .entry))) (a .value) ⌝ }
+    ensures law { λ _. ⌜ QuotientLaw ⌝ }
 {
     if a.value() < 0 {
         return point(words, 0);
