@@ -1,4 +1,5 @@
 // Stacks of two stages over either end: what their links report, and how far a fault climbs.
+ghost use Prim.Native.Nat.{_+_, min};
 ghost use Rattle.std.specs.declared.result.Result.the-variants.{Ok};
 ghost use Rattle.terminals.specs.Frames.{benchLink};
 ghost use Rattle.terminals.specs.Stacks.{DistanceLaw};
@@ -18,8 +19,7 @@ use crate::stages::WatchTerminals;
 
 // The watch sees the bench's own inputs, and its fault climbs one stage.
 pub fn floor_over_watch(floor: &Floor<Watch<Bench>>) -> Result<(), Fault>
-    ensures link { λ r. ⌜ r ≡ passedLink (watchedLink (now (floor .entry) .below .chosen) (now (floor .entry) .below .below .shown .inputs) (benchLink (now (floor .entry) .below .below .shown .cause))) ⌝ }
-    ensures law { λ _. ⌜ DistanceLaw ⌝ }
+    ensures { λ r. ⌜ r ≡ passedLink (watchedLink (now (floor .entry) .below .chosen) (now (floor .entry) .below .below .shown .inputs) (benchLink (now (floor .entry) .below .below .shown .cause))) ⌝ }
 {
     floor.link()
 }
@@ -36,4 +36,12 @@ pub fn watch_over_watch(watches: &Watch<Watch<Plant>>) -> Result<(), Fault>
     ensures { λ r. ⌜ r ≡ watchedLink (now (watches .entry) .chosen) (plantInputs (now (watches .entry) .below .below .level .value)) (watchedLink (now (watches .entry) .below .chosen) (plantInputs (now (watches .entry) .below .below .level .value)) (Ok tt)) ⌝ }
 {
     watches.link()
+}
+
+// The distance that a fault has once it has climbed so many stages.
+pub fn distance_through(fault: Fault, stages: u8) -> u8
+    ensures distance { λ r. ⌜ r ≡ min (fault .distance + stages) 255 ⌝ }
+    ensures law { λ _. ⌜ DistanceLaw ⌝ }
+{
+    fault.distance.saturating_add(stages)
 }

@@ -18,6 +18,7 @@ use terminals::framing::Framed;
 use terminals::interface::Terminals;
 use terminals::plant::Plant;
 use terminals::plant::PlantTerminals;
+use terminals::stacks::distance_through;
 use terminals::stacks::floor_over_watch;
 use terminals::stacks::watch_over_floor;
 use terminals::stacks::watch_over_watch;
@@ -86,6 +87,25 @@ fn a_watch_over_a_floor() -> Result<(), Fail> {
     same.frame(frame(-32767, 0))?;
     same.sample();
     check_eq(same.link(), Ok(()))
+}
+
+#[test]
+fn faults_climb() -> Result<(), Fail> {
+    for (distance, stages, expected) in [
+        (0, 0, 0),
+        (0, 2, 2),
+        (1, 254, 255),
+        (200, 200, 255),
+        (255, 1, 255),
+    ] {
+        let low = Fault {
+            cause: 7,
+            input: 3,
+            distance,
+        };
+        check_eq(distance_through(low, stages), expected)?;
+    }
+    Ok(())
 }
 
 // The lower watch's fault comes first, one stage further up.
