@@ -1,4 +1,6 @@
 // The commands that compute a reading from readings and bits, with nothing to remember.
+#![tactic(auto)]
+
 pub mod operate;
 pub mod operation;
 mod quotients;

@@ -1,4 +1,6 @@
 // Examples of every command's arithmetic at its edges.
+#![tactic(auto)]
+
 #[cfg(test)]
 mod binary;
 #[cfg(test)]

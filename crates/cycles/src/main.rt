@@ -1,6 +1,8 @@
 // Works a parcel for a number of cycles over made-up inputs, and prints a checksum of all that came out.
 //
 //     cycles PARCEL COUNT
+#![tactic(auto)]
+
 ghost use Rattle.std.specs.Prelude.{◌≡◌, ◌+◌, ◌*◌, ◌/◌, ◌%◌, ◌^◌, pos, ◌+ℤ◌};
 
 use anyhow::anyhow;

@@ -1,4 +1,6 @@
 // The ends: terminals with nothing below them, a bench and a plant.
+#![tactic(auto)]
+
 pub mod bench;
 mod numbers;
 pub mod plant;

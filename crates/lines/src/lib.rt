@@ -1,4 +1,6 @@
 // What one line does: its sources, its result, and, in specs, what a diagram, a wait and a diagram value are.
+#![tactic(auto)]
+
 pub mod facts;
 pub mod program;
 pub mod resolving;

@@ -1,3 +1,5 @@
 // The listing of a configuration as rows of text.
+#![tactic(auto)]
+
 mod operand;
 pub mod rows;

@@ -1,4 +1,6 @@
 // What one cycle does to all lines, and what load, recall and adjustments do.
+#![tactic(auto)]
+
 mod fetch;
 mod flexible;
 pub mod machine;

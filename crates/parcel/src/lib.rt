@@ -1,4 +1,6 @@
 // What a parcel says: its contents list, load's questions, the configuration, trial changes and the listing.
+#![tactic(auto)]
+
 pub mod configuration;
 mod contents;
 pub mod line;

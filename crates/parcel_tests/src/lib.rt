@@ -1,4 +1,6 @@
 // Examples of parcels at the edges of each question, of trials, and of a listing.
+#![tactic(auto)]
+
 #[cfg(test)]
 mod build;
 #[cfg(test)]

@@ -1,4 +1,6 @@
 // Reads commands from the file that is named, or from standard input, and answers each.
+#![tactic(auto)]
+
 use anyhow::anyhow;
 use console::desk::Desk;
 use console::session::converse;

@@ -1,5 +1,5 @@
 -- Words: 16 bits that write a reading.
-use Rattle.std.specs.Prelude.{ℕ, ◌+◌, ◌*◌, ◌/◌, ◌%◌, Bool, ℤ, nat_le}
+use Rattle.std.specs.Prelude.{ℕ, ◌+◌, ◌*◌, ◌/◌, ◌%◌, ℤ, nat_le}
 use Rattle.readings.specs.Range.{signed_by}
 use Rattle.readings.specs.declared.word.Word.{Word}
 

@@ -1,2 +1,4 @@
 // The sample values that every build of the controller has to give.
+#![tactic(auto)]
+
 pub mod samples;

@@ -1,4 +1,6 @@
 // Stages: terminals that stand over other terminals, and stacks of them.
+#![tactic(auto)]
+
 mod choice;
 pub mod faults;
 pub mod stacks;

@@ -1,4 +1,6 @@
 // Examples of the terminals: ends, stages and stacks of them.
+#![tactic(auto)]
+
 #[cfg(test)]
 mod ends;
 #[cfg(test)]

@@ -1,4 +1,6 @@
 // The commands that move through time: rate limiters, integrators and delays.
+#![tactic(auto)]
+
 pub mod phase;
 pub mod ramp;
 pub mod remainder;

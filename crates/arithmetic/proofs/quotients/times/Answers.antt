@@ -3,8 +3,8 @@ use Rattle.std.proofs.lemmas.Int.{ints, to_z-of_z}
 use Rattle.arithmetic.proofs.Laws.{product_small}
 use Rattle.arithmetic.proofs.quotients.times.Goals as goal
 
-pub overflow-mul-result : goal.overflow-mul-result
-overflow-mul-result c =
+pub overflow_mul-result : goal.overflow_mul-result
+overflow_mul-result c =
     let f = c.ranges.x in
     let g = c.ranges.y in
     simp to_z-of_z (omega (arith, ints, product_small c.args.x c.args.y c.requires.0 c.requires.1))

@@ -20,7 +20,7 @@ returns-then-n-ge16384 c = record {
 
 pub returns : goal.returns
 returns c =
-    let n = ap nat_abs (back _ c.value-n.type-inv ∙ c.value-n.ensures.same) in
+    let n = ap nat_abs (back _ c.value-n.type_inv ∙ c.value-n.ensures.same) in
     record {
       value =
           c.between.ensures ∙ at_points (point_of c.args.words.now) _ _ _ _ c.point-2.ensures c.point-3.ensures n

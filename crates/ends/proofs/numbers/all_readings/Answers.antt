@@ -3,8 +3,8 @@ use Rattle.std.proofs.lemmas.List.{at_drop_more, at_drop_all}
 use Rattle.readings.specs.Range.{are_readings, is_reading}
 use Rattle.ends.proofs.numbers.all_readings.Goals as goal
 
-pub returns-then-not-is-reading : goal.returns-then-not-is-reading
-returns-then-not-is-reading c =
+pub returns-then-not-is_reading : goal.returns-then-not-is_reading
+returns-then-not-is_reading c =
     let e = at_drop_more are_readings c.args.values.now c.loop-x.x-index (pos 0) (omega arith) in search rules
 
 pub loop-x-preserved : goal.loop-x-preserved

@@ -6,5 +6,5 @@ use Rattle.ends.proofs.numbers.is_reading.Goals as goal
 
 pub returns : goal.returns
 returns c =
-    c.is-some.ensures ∙ readable_some c.new.result (to_z w32 (of_z w32 c.args.value)) c.new.ensures
+    c.is_some.ensures ∙ readable_some c.new.result (to_z w32 (of_z w32 c.args.value)) c.new.ensures
     ∙ ap is_reading (back c.args.value c.ranges.value.sfits)

@@ -12,8 +12,8 @@ loop-line-preserved c =
     let lt : i < length bits = omega arith in (
       simp length-set c.loop-line.invariant.0,
       below_more _ _
-          (λ k h phase. let ne : k ≢ i = omega arith in ap as_number (get_or-set_other bits i k c.work-bit.result false ne) ∙ c.loop-line.invariant.1 k h phase)
-          (λ phase. ap as_number (get_or-set_same bits i c.work-bit.result false lt) ∙ search (rules, c.work-bit.ensures)),
+          (λ k h phase. let ne : k ≢ i = omega arith in ap as_number (get_or-set_other bits i k c.work_bit.result false ne) ∙ c.loop-line.invariant.1 k h phase)
+          (λ phase. ap as_number (get_or-set_same bits i c.work_bit.result false lt) ∙ search (rules, c.work_bit.ensures)),
     )
 
 pub returns : goal.returns

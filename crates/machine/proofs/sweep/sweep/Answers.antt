@@ -11,9 +11,9 @@ loop-place-init c = (refl, c.requires.readings, c.requires.remainders)
 
 pub loop-place-preserved : goal.loop-place-preserved
 loop-place-preserved c = (
-  turn (command_of c.args.program.now) c.args.phase.number (brought c.args.sample.now) c.loop-place.values c.work-place.new.values c.loop-place.place (c.loop-place.place - 1) (omega arith) (search rules) ∙ c.loop-place.invariant.0,
-  c.work-place.ensures.readings,
-  c.work-place.ensures.remainders,
+  turn (command_of c.args.program.now) c.args.phase.number (brought c.args.sample.now) c.loop-place.values c.work_place.new.values c.loop-place.place (c.loop-place.place - 1) (omega arith) (search rules) ∙ c.loop-place.invariant.0,
+  c.work_place.ensures.readings,
+  c.work_place.ensures.remainders,
 )
 
 pub returns : goal.returns

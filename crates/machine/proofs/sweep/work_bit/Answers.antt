@@ -20,6 +20,6 @@ returns c f =
     let b : to_z w16 (of_z w16 c.number-b.result) ≡ at now w.sources.b = search rules in
     let na = ap nearest a ∙ nearest_same (at now w.sources.a) (at_in v s w.sources.a c.requires.readings sound.0) in
     let nb = ap nearest b ∙ nearest_same (at now w.sources.b) (at_in v s w.sources.b c.requires.readings sound.1) in
-    c.work-binary.ensures f
+    c.work_binary.ensures f
     ∙ (λ j. (resulting (binary_view w.command w.sources) f (na j) (nb j) (held (as_number (get_or v.bits k false)) (pos 0))).value)
     ∙ ap (λ (x : Held). x.value) (bit_worked p k f (brought s) v c.requires.line)

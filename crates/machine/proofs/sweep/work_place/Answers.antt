@@ -61,8 +61,8 @@ returns-in-Delay c =
     (subst (λ (x : Analog). Keeps (divides_by x) step.remainder.value) (sym command) keeps) c.requires.readings c.requires.remainders in
     record { lines = all.0; readings = all.1; remainders = all.2 }
 
-pub returns-in-default : goal.returns-in-default
-returns-in-default c =
+pub returns-in_default : goal.returns-in_default
+returns-in_default c =
     let p = c.args.program.now in
     let i = c.args.place in
     let v = c.args.values.now in
@@ -82,9 +82,9 @@ returns-in-default c =
     let nb = ap nearest b ∙ nearest_same (at now w.sources.b) (at_in v c.args.sample.now w.sources.b c.requires.readings sound.1) in
     let no = ap nearest o ∙ nearest_same x (c.requires.readings i) in
     let is =
-    c.work-analog.ensures.given m none
+    c.work_analog.ensures.given m none
     ∙ (λ j. resulting (analog_view p.table w.command w.sources) c.args.phase.number (na j) (nb j) (held (no j) m))
     ∙ place_worked p i c.args.phase.number s v w.command c.requires.place refl in
     let all =
-    placed_all p v c.show.new.values i c.work-analog.result.value m _ c.show.ensures (omega arith) (omega arith) is c.work-analog.result.range (c.requires.remainders i) c.requires.readings c.requires.remainders in
+    placed_all p v c.show.new.values i c.work_analog.result.value m _ c.show.ensures (omega arith) (omega arith) is c.work_analog.result.range (c.requires.remainders i) c.requires.readings c.requires.remainders in
     record { lines = all.0; readings = all.1; remainders = all.2 }

@@ -12,7 +12,7 @@ pub loop-i-preserved : goal.loop-i-preserved
 unfolding analog_lines
 loop-i-preserved c =
     let f = analog_line c.args.parcel.now c.args.d in (
-      rw c.analog-line.ensures (written_more f c.loop-i.lines c.loop-i.i (omega arith) c.loop-i.invariant.0),
+      rw c.analog_line.ensures (written_more f c.loop-i.lines c.loop-i.i (omega arith) c.loop-i.invariant.0),
       simp length-set c.loop-i.invariant.1,
     )
 

@@ -4,9 +4,9 @@ use Rattle.parcel.specs.Trial.{tried}
 use Rattle.parcel.proofs.Restored.{put_back}
 use Rattle.parcel.proofs.trial.trial.Goals as goal
 
-pub returns-in-err-ask : goal.returns-in-err-ask
-returns-in-err-ask c =
-    let e = c.in-err-ask.field-0.0 in
+pub returns-in_err-ask : goal.returns-in_err-ask
+returns-in_err-ask c =
+    let e = c.in_err-ask.field-0.0 in
     let no : refused (number_of e) (address_of e) ≡ tried c.args.parcel.now c.args.line c.args.new = search rules in
     record {
       answer = search rules;

@@ -8,7 +8,7 @@ use Rattle.timing.proofs.remainder.cut.Goals as goal
 pub returns : goal.returns
 unfolding cut
 returns c =
-    let d = back _ c.number.type-inv ∙ c.number.ensures.value in
+    let d = back _ c.number.type_inv ∙ c.number.ensures.value in
     let q = quot_z c.args.n (divisor c.args.divisor) in
     let s : Small q = quotient_within c.args.n (divisor c.args.divisor) 200000 c.requires.0 c.requires.1 in
     let f : SFits w32 q = omega (arith, ints) in

@@ -9,7 +9,7 @@ use Rattle.timing.proofs.remainder.rest.Goals as goal
 pub returns : goal.returns
 returns c =
     let D = divisor c.args.divisor in
-    let d = back _ c.number.type-inv ∙ c.number.ensures.value in
+    let d = back _ c.number.type_inv ∙ c.number.ensures.value in
     let low = divisor_low c.args.divisor in
     let high = divisor_high c.args.divisor in
     let b = rem_below c.args.n D low in

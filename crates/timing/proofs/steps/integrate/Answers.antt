@@ -8,8 +8,8 @@ use Rattle.timing.proofs.steps.integrate.Goals as goal
 
 pub returns : goal.returns
 returns c =
-    let s = back _ c.lifted-s.type-inv ∙ c.lifted-s.ensures.value in
-    let z = back _ c.moved-sum.type-inv ∙ c.moved-sum.ensures ∙ ap (λ (x : ℤ). c.args.b.value +ℤ x) (ap₂ cut s (ap divisor c.divisor.ensures)) in
+    let s = back _ c.lifted-s.type_inv ∙ c.lifted-s.ensures.value in
+    let z = back _ c.moved-sum.type_inv ∙ c.moved-sum.ensures ∙ ap (λ (x : ℤ). c.args.b.value +ℤ x) (ap₂ cut s (ap divisor c.divisor.ensures)) in
     let r = ap₂ rest s (ap divisor c.divisor-2.ensures) in
     record {
       reading = c.limited.ensures ∙ ap limit z;

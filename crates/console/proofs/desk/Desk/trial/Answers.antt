@@ -26,13 +26,13 @@ returns g c = record {
   answer =
       ap told c.judge.ensures.value
       ∙ (told_reply _
-      ∙ (c.trial-answer.ensures.answer ∙ ap (λ (p : List ℕ). tried p c.args.line c.args.new) c.as-mut-slice.ensures.value));
+      ∙ (c.trial-answer.ensures.answer ∙ ap (λ (p : List ℕ). tried p c.args.line c.args.new) c.as_mut_slice.ensures.value));
   noted =
       c.judge.ensures.noted
       ∙ ap (after_answer c.args.self.now.journal) (sym (ap answer_of c.judge.ensures.value ∙ answer_reply _));
   bytes =
       ap (λ (v : Vec ℕ Global). vec_items v) c.judge.ensures.same
       ∙ (with_items_is c.args.self.now.parcel c.trial-answer.new.parcel (omega arith)
-      ∙ (c.trial-answer.ensures.bytes ∙ ap (left c.args.line c.args.new) c.as-mut-slice.ensures.value));
+      ∙ (c.trial-answer.ensures.bytes ∙ ap (left c.args.line c.args.new) c.as_mut_slice.ensures.value));
   failed = c.judge.ensures.failed;
 }

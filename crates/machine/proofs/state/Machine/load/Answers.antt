@@ -9,7 +9,7 @@ invariant-of-self c = (c.args.self.now.readings, (zero_remainders c.of-self.resu
 pub returns : goal.returns
 returns c =
     let m = c.args.self.now in
-    let read = c.in-ok-configuration.ensures in
+    let read = c.in_ok-configuration.ensures in
     record {
       answer = read.answer;
       state = same_state _ _ (search rules) refl (c.of-self.ensures ∙ ap command_in read.holds) (lines_cleared m.values) refl;

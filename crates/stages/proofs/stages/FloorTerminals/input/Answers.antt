@@ -5,10 +5,10 @@ use Rattle.stages.proofs.stages.FloorTerminals.input.Goals as goal
 
 pub returns-then-value-lt0 : goal.returns-then-value-lt0
 returns-then-value-lt0 g c =
-    let e = floored_input c.args.self.now.chosen c.args.number _ c.in-ok-x.x.value c.in-ok-x.ensures in
+    let e = floored_input c.args.self.now.chosen c.args.number _ c.in_ok-x.x.value c.in_ok-x.ensures in
     search (rules, e)
 
 pub returns : goal.returns
 returns g c =
-    let e = floored_input c.args.self.now.chosen c.args.number _ c.in-ok-x.x.value c.in-ok-x.ensures in
+    let e = floored_input c.args.self.now.chosen c.args.number _ c.in_ok-x.x.value c.in_ok-x.ensures in
     search (rules, e)
