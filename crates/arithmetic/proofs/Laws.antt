@@ -1,10 +1,9 @@
 -- Laws of quotients and roots.
-use Rattle.std.proofs.Common.{◌≡◌, ℕ, zero, suc, ◌+◌, ◌-◌, ◌*◌, ◌/◌, ◌%◌, ◌^◌, ◌<◌, ◌≤◌, Bool, true, false, cond, leb, ◌⊎◌, ℤ, pos, negsuc, ◌+ℤ◌, ◌-ℤ◌, ◌*ℤ◌, neg_ℤ, nat_abs, ◌≤ℤ◌, ◌<ℤ◌, sym, refl, ap, ◌∙◌, subst, inl, inr, ⊎_elim, add-mul, pow-suc, zero-mul, div-le_self, arith, w32, SFits, to_z, of_z}
-use lib.Signed.{quot_z, rem_z, lt_z, mag}
-use Rattle.std.proofs.lemmas.Int.{ints, to_z-of_z}
-use Rattle.std.proofs.lemmas.Nat.{mul-le, div-add-mod', mod_below, div_below, le-div}
-use Rattle.std.proofs.lemmas.Bool.{leb-true, leb-false, cases_lt, cond-true, cond-false, lt-ltb, le-ltb}
-use Rattle.std.specs.Int.{int_signum, int_min, int_max}
+use Rattle.std.proofs.Common.{◌≡◌, ℕ, zero, suc, ◌+◌, ◌*◌, ◌^◌, ◌<◌, ◌≤◌, Bool, true, false, cond, leb, ◌⊎◌, ℤ, pos, negsuc, ◌*ℤ◌, neg_ℤ, nat_abs, ◌≤ℤ◌, ◌<ℤ◌, refl, ap, inl, inr, ⊎_elim, pow-suc, zero-mul, arith}
+use Rattle.std.proofs.lemmas.Int.{ints}
+use Rattle.std.proofs.lemmas.Nat.{mul-le, div-add-mod', mod_below}
+use Rattle.std.proofs.lemmas.Bool.{leb-true, leb-false, cases_lt}
+use Rattle.std.specs.Int.{int_signum}
 use Rattle.readings.specs.Range.{InRange}
 use Rattle.readings.proofs.Whole.{quotient_within}
 use Rattle.arithmetic.specs.Quotients.{QuotientLaw, Small, quotient, root, root_from}

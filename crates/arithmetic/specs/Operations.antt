@@ -1,5 +1,5 @@
 -- The commands that only compute, over whole numbers.
-use Rattle.std.specs.Prelude.{ℕ, zero, suc, ◌*◌, ℤ, pos, negsuc, ◌+ℤ◌, ◌-ℤ◌, ◌*ℤ◌, neg_ℤ, unsigned_abs}
+use Rattle.std.specs.Prelude.{zero, suc, ◌*◌, ℤ, pos, negsuc, ◌+ℤ◌, ◌-ℤ◌, ◌*ℤ◌, neg_ℤ, unsigned_abs}
 use Rattle.std.specs.Int.{int_min, int_max, int_signum}
 use Rattle.readings.specs.declared.settings.Factor.{Factor}
 use Rattle.readings.specs.declared.settings.Factor.TheVariants.{Tenth, Eighth, Fifth, Quarter, Third, Half, Times2, Times3, Times4, Times5, Times8, Times10, Times20, Times40, Times50, Times100}

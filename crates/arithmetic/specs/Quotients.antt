@@ -1,5 +1,5 @@
 -- How quotients and roots are rounded.
-use Rattle.std.specs.Prelude.{◌≡◌, ℕ, zero, suc, ◌+◌, ◌*◌, ◌^◌, ◌<◌, cond, ℤ, pos, negsuc, ◌-ℤ◌, ◌*ℤ◌, ◌≤ℤ◌, ◌≢◌, int_div, nat_le, unsigned_abs}
+use Rattle.std.specs.Prelude.{ℕ, zero, suc, ◌+◌, ◌*◌, ◌^◌, ◌<◌, cond, ℤ, pos, negsuc, ◌-ℤ◌, ◌*ℤ◌, ◌≤ℤ◌, ◌≢◌, int_div, nat_le, unsigned_abs}
 
 -- the quotient of the commands: cut toward zero
 unfoldable pub quotient : ℤ → ℤ → ℤ

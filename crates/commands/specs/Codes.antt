@@ -1,5 +1,5 @@
 -- The code of each command. A block is a first code and the commands of the codes from there on.
-use Rattle.std.specs.Prelude.{ℕ, zero, suc, ◌+◌, ◌-◌, cond, ◌&&◌, List, [], ◌∷◌, map, length, Some, None, Option, nat_le, nat_lt}
+use Rattle.std.specs.Prelude.{ℕ, ◌+◌, ◌-◌, cond, ◌&&◌, List, [], ◌∷◌, map, length, None, Option, nat_le, nat_lt}
 use Rattle.std.specs.List.{slice_get}
 use Rattle.readings.specs.declared.settings.Factor.{Factor}
 use Rattle.readings.specs.declared.settings.Factor.TheVariants.{Tenth, Eighth, Fifth, Quarter, Third, Half, Times2, Times3, Times4, Times5, Times8, Times10, Times20, Times40, Times50, Times100}

@@ -1,5 +1,5 @@
 -- The plant's input stays between where it was and the output.
-use Rattle.std.proofs.Common.{◌≡◌, ℕ, suc, ◌/◌, ◌≤◌, ◌⊎◌, ℤ, pos, negsuc, ◌-ℤ◌, ◌≤ℤ◌, inl, inr, ⊎_elim, div-le_self, arith}
+use Rattle.std.proofs.Common.{suc, ◌/◌, ◌≤◌, ◌⊎◌, ℤ, pos, negsuc, ◌-ℤ◌, ◌≤ℤ◌, inl, inr, arith}
 use lib.Signed.{quot_z}
 use Rattle.std.proofs.lemmas.Int.{ints}
 use Rattle.readings.specs.Range.{InRange}

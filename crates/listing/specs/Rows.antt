@@ -1,5 +1,5 @@
 -- The rows of a listing, each ended by a newline. A text is the list of its bytes.
-use Rattle.std.specs.Prelude.{ℕ, zero, suc, ◌-◌, ◌/◌, ◌%◌, cond, List, [], ◌∷◌, ◌++◌, Some, None, codes, decimal, Option, nat_lt, slice_index_or}
+use Rattle.std.specs.Prelude.{ℕ, zero, suc, ◌-◌, ◌/◌, ◌%◌, cond, List, [], ◌++◌, Some, None, codes, decimal, Option, nat_lt, slice_index_or}
 use Rattle.readings.specs.declared.word.Word.{Word}
 use Rattle.notation.specs.Bytes.{byte_text}
 use Rattle.commands.specs.declared.command.Analog.TheVariants as an

@@ -1,5 +1,5 @@
 -- A reading in percent, to the tenth: one tenth of a percent is 16.
-use Rattle.std.specs.Prelude.{ℕ, ◌+◌, ◌/◌, ◌%◌, Bool, cond, List, [], ◌∷◌, ℤ, pos, Some, None, Option, ◌==◌, int_lt, unsigned_abs}
+use Rattle.std.specs.Prelude.{ℕ, ◌+◌, ◌/◌, ◌%◌, cond, List, [], ◌∷◌, ℤ, pos, Some, None, Option, ◌==◌, int_lt, unsigned_abs}
 use Rattle.notation.specs.declared.percent.Percent.{Percent}
 
 -- the tenths of a reading, if it is a whole number of them

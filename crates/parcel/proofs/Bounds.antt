@@ -1,10 +1,10 @@
 -- The bodies of an accepted contents list lie within the parcel.
-use Rattle.std.proofs.Common.{◌≡◌, ℕ, ◌+◌, ◌≤◌, Bool, true, false, cond, ◌&&◌, ◌||◌, eqb, List, [], ◌∷◌, Some, None, sym, refl, ap, ◌∙◌, inl, inr, ⊎_elim, arith}
+use Rattle.std.proofs.Common.{◌≡◌, ℕ, ◌+◌, ◌≤◌, true, List, [], ◌∷◌, None, inl, inr, arith}
 use Rattle.std.proofs.lemmas.Bool.Decides.{nat_tests}
 use Rattle.std.proofs.lemmas.Bool.{and_parts, cases_Bool, eqb-true, false≢true}
 use Rattle.parcel.specs.declared.contents.Entry.{Entry}
-use Rattle.parcel.specs.Verdicts.{Verdict, taken, question, ◌then◌}
-use Rattle.parcel.specs.Contents.{present, sized, size_of, ends, begins, kinds_lawful, lawful, bodies_asked, places_of, Within, FitsAt}
+use Rattle.parcel.specs.Verdicts.{taken, question}
+use Rattle.parcel.specs.Contents.{present, sized, size_of, ends, begins, kinds_lawful, lawful, bodies_asked, places_of, Within}
 use Rattle.parcel.proofs.Taken.{then-taken, question_taken}
 
 pub ends_le : (es : List Entry) (from : ℕ) → from ≤ ends es from

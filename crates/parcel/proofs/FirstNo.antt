@@ -1,5 +1,5 @@
 -- The questions line by line: a step on, and the first line with a no.
-use Rattle.std.proofs.Common.{◌≡◌, ℕ, zero, suc, ◌+◌, ◌-◌, ◌<◌, ◌≤◌, Bool, List, is_some, Option, sym, refl, ap, ◌∙◌, subst, add-one, arith}
+use Rattle.std.proofs.Common.{◌≡◌, ℕ, zero, suc, ◌+◌, ◌-◌, ◌<◌, Bool, List, is_some, Option, refl, ap, ◌∙◌, subst, add-one, arith}
 use native.Mathlib.Numerals.{unary_clauses}
 use Rattle.parcel.specs.declared.line.LineBytes.{LineBytes}
 use Rattle.parcel.specs.declared.contents.Directory.{Directory}

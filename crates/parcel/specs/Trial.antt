@@ -1,5 +1,5 @@
 -- A trial: one line's three bytes are exchanged, and stay if the parcel is still taken.
-use Rattle.std.specs.Prelude.{ℕ, ◌+◌, ◌<◌, List, length, slice_index, slice_set}
+use Rattle.std.specs.Prelude.{ℕ, ◌+◌, ◌<◌, List, slice_index, slice_set}
 use Rattle.parcel.specs.declared.contents.Directory.{Directory}
 use Rattle.parcel.specs.declared.line.LineBytes.{LineBytes}
 use Rattle.parcel.specs.declared.trial.Places.{Places}

@@ -1,6 +1,6 @@
 -- How far a fault climbs.
-use Rattle.std.proofs.Common.{◌≡◌, ℕ, zero, suc, ◌+◌, ◌≤◌, min, refl, ap, ◌∙◌, arith}
-use Rattle.stages.specs.Stacks.{DistanceLaw, climbed}
+use Rattle.std.proofs.Common.{◌≡◌, ℕ, zero, suc, ◌+◌, min, ap, ◌∙◌, arith}
+use Rattle.stages.specs.Stacks.{DistanceLaw}
 use Rattle.stages.specs.Stages.{raised}
 use Rattle.terminals.specs.declared.faults.Fault.{Fault}
 

@@ -4,7 +4,7 @@ use Rattle.std.proofs.Common.{ap, ◌∙◌, arith, add-zero}
 use Rattle.std.proofs.lemmas.Bool.{and_parts, and_from}
 use Rattle.std.proofs.lemmas.Bool.Decides.{nat_tests}
 use Rattle.readings.specs.Range.{is_reading, are_readings}
-use Rattle.terminals.specs.Meaning.{Link, IsLink, IsFault}
+use Rattle.terminals.specs.Meaning.{Link, IsLink}
 use Rattle.stages.specs.Stages.{chosen_at, floored_one, floored, lowest_low, passed_link, watched_link, own_link}
 use Rattle.terminals.specs.Rules.{input_rule}
 

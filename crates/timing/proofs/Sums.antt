@@ -1,14 +1,14 @@
 -- The law of a self-fed integrator.
-use Rattle.std.proofs.Common.{◌≡◌, ℕ, ◌*◌, Bool, true, false, cond, ◌||◌, List, [], ◌∷◌, ℤ, pos, negsuc, ◌+ℤ◌, ◌-ℤ◌, ◌*ℤ◌, ◌≤ℤ◌, ap, subst, add-mul, arith}
+use Rattle.std.proofs.Common.{◌≡◌, ℕ, ◌*◌, true, false, cond, List, [], ◌∷◌, ℤ, pos, negsuc, ◌+ℤ◌, ◌*ℤ◌, ◌≤ℤ◌, ap, subst, add-mul, arith}
 use lib.Signed.{lt_z}
-use borrow.Author.Differences.{up, down, sum_is_lem}
+use borrow.Author.Differences.{sum_is_lem}
 use Rattle.std.proofs.lemmas.Int.{ints}
 use Rattle.std.proofs.lemmas.Bool.{or_parts}
 use Rattle.readings.specs.Range.{limit}
 use Rattle.readings.specs.declared.settings.Divisor.TheVariants.{D10, D40, D100, D250, D1200, D4800, D12000, D30000}
-use Rattle.timing.specs.Divisors.{Below, cut, divisor, rest}
+use Rattle.timing.specs.Divisors.{Below, cut, rest}
 use Rattle.timing.specs.Remainders.{beyond, unlimited, integrated, integrated_rest}
-use Rattle.timing.specs.Sums.{value_after, rest_after, Unlimited, total, Balance, SumLaw}
+use Rattle.timing.specs.Sums.{Unlimited, Balance, SumLaw}
 use Rattle.timing.proofs.Laws.{cut-rest, rem_below, rem_is_rest, divisor_low}
 
 distrib : (a b : ℤ) (k : ℕ) → (a +ℤ b) *ℤ pos k ≡ a *ℤ pos k +ℤ b *ℤ pos k

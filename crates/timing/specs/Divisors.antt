@@ -1,5 +1,5 @@
 -- The divisors of integrators and delays, and division that keeps its remainder.
-use Rattle.std.specs.Prelude.{Bool, cond, ◌&&◌, ℤ, pos, negsuc, ◌-ℤ◌, ◌*ℤ◌, neg_ℤ, ◌≤ℤ◌, ◌<ℤ◌, Some, None, Option, int_div, int_lt}
+use Rattle.std.specs.Prelude.{cond, ◌&&◌, ℤ, pos, negsuc, ◌-ℤ◌, ◌*ℤ◌, neg_ℤ, ◌≤ℤ◌, ◌<ℤ◌, Some, None, Option, int_div, int_lt}
 use Rattle.readings.specs.declared.settings.Divisor.{Divisor}
 use Rattle.readings.specs.declared.settings.Divisor.TheVariants.{D10, D40, D100, D250, D1200, D4800, D12000, D30000}
 

@@ -1,6 +1,5 @@
-use Rattle.std.proofs.Common.{◌≡◌, ℤ, pos, ◌+ℤ◌, ◌-ℤ◌, ◌*ℤ◌, ap, ◌∙◌, arith, w32, to_z, of_z}
+use Rattle.std.proofs.Common.{ℤ, pos, ◌*ℤ◌, ap, ◌∙◌, arith}
 use Rattle.std.proofs.lemmas.Int.{ints}
-use Rattle.readings.specs.Range.{InRange}
 use Rattle.arithmetic.specs.Quotients.{quotient}
 use Rattle.readings.proofs.Whole.{back}
 use Rattle.arithmetic.proofs.TableLaws.{between_within}

@@ -1,6 +1,6 @@
-use Rattle.std.proofs.Common.{◌≡◌, ◌+◌, ◌&&◌, get_or, drop, pos, arith, rules}
+use Rattle.std.proofs.Common.{pos, arith, rules}
 use Rattle.std.proofs.lemmas.List.{at_drop_more, at_drop_all}
-use Rattle.readings.specs.Range.{are_readings, is_reading}
+use Rattle.readings.specs.Range.{are_readings}
 use Rattle.ends.proofs.numbers.all_readings.Goals as goal
 
 pub returns-then-not-is_reading : goal.returns-then-not-is_reading

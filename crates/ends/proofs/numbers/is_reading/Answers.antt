@@ -1,4 +1,4 @@
-use Rattle.std.proofs.Common.{◌≡◌, ap, ◌∙◌, w32, to_z, of_z}
+use Rattle.std.proofs.Common.{ap, ◌∙◌, w32, to_z, of_z}
 use Rattle.readings.specs.Range.{is_reading}
 use Rattle.readings.proofs.Whole.{back}
 use Rattle.ends.proofs.ListLaws.{readable_some}

@@ -1,4 +1,4 @@
-use Rattle.std.proofs.Common.{pos, ◌+ℤ◌, ◌-ℤ◌, refl, arith, w32, SFits, rules}
+use Rattle.std.proofs.Common.{pos, ◌-ℤ◌, refl, w32, SFits, rules}
 use lib.Signed.{quot_z}
 use Rattle.std.proofs.lemmas.Int.{ints, to_z-of_z}
 use Rattle.ends.specs.Plants.{moved}

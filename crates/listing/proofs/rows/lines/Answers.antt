@@ -1,4 +1,4 @@
-use Rattle.std.proofs.Common.{sym, ◌∙◌, rules}
+use Rattle.std.proofs.Common.{rules}
 use Rattle.listing.specs.Rows.{line_text}
 use Rattle.listing.proofs.Texts.{up_to-none, up_to-more}
 use Rattle.listing.proofs.rows.lines.Goals as goal

@@ -1,4 +1,4 @@
-use Rattle.std.proofs.Common.{◌≡◌, take, set, sym, refl, ap, ◌∙◌, arith}
+use Rattle.std.proofs.Common.{refl, arith}
 use Rattle.std.proofs.lemmas.List.{length-set}
 use Rattle.parcel.specs.Parcel.{binary_lines, binary_line}
 use Rattle.parcel.proofs.Steps.{written_more, written_all}

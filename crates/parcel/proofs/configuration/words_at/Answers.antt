@@ -1,4 +1,4 @@
-use Rattle.std.proofs.Common.{◌≡◌, refl, arith}
+use Rattle.std.proofs.Common.{refl, arith}
 use Rattle.std.proofs.lemmas.List.{length-set}
 use Rattle.parcel.specs.Parcel.{words_at, word_at}
 use Rattle.parcel.proofs.Steps.{written_more, written_all}

@@ -1,5 +1,5 @@
 use Rattle.std.proofs.Common.{◌≡◌, drop}
-use Rattle.parcel.specs.Contents.{present, sized}
+use Rattle.parcel.specs.Contents.{sized}
 use Rattle.parcel.proofs.contents.sizes.Given as goal
 
 abbrev pub invariant-loop-e : goal.invariant-loop-e

@@ -1,4 +1,4 @@
-use Rattle.std.proofs.Common.{◌≡◌, sym, ap, ◌∙◌, rules}
+use Rattle.std.proofs.Common.{◌≡◌, ◌∙◌, rules}
 use Rattle.parcel.specs.Verdicts.{number_of, address_of, refused}
 use Rattle.parcel.specs.Trial.{tried}
 use Rattle.parcel.proofs.Restored.{put_back}

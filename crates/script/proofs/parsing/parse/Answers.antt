@@ -1,10 +1,9 @@
-use Rattle.std.proofs.Common.{◌≡◌, ℕ, ◌<◌, ◌≤◌, List, [], ◌∷◌, length, get_or, Some, Ok, Err, Option, Result, sym, refl, ap, ◌∙◌, arith, ltb-false, ltb-true}
-use Rattle.script.specs.Commands.{Said, Objection, reads, saves, checks, lists, reports, helps, unknown, word_count, arguments_read, command_read, texts}
-use Rattle.script.specs.declared.parsing.Verb.{Verb}
+use Rattle.std.proofs.Common.{◌≡◌, ◌<◌, List, [], ◌∷◌, length, Err, sym, refl, ◌∙◌, arith, ltb-false, ltb-true}
+use Rattle.script.specs.Commands.{reads, saves, checks, lists, reports, helps, unknown, command_read, texts}
 use Rattle.script.specs.declared.parsing.Verb.TheVariants.{Parcel, Save, Check, Lines, Trial, Report, Help}
-use Rattle.script.proofs.Words.{Word, blank, rest, says, none_left, one_left, four_left, some_left, no_file, past_file, few_bytes, past_bytes}
+use Rattle.script.proofs.Words.{Word, rest, says, none_left, one_left, four_left, some_left, no_file, past_file, few_bytes, past_bytes}
 use Rattle.script.proofs.parsing.parse.Goals as goal
-use Rattle.script.proofs.parsing.parse.Goals.{in_default-2-via-in-Parcel·+then-rest-lt1, in_default-2-via-in-Parcel·+else-rest-lt1+else-this-lt2, in_default-2-via-in-Save·+then-this-lt1, in_default-2-via-in-Save·+else-this-lt1+else-this-lt2-2, in_default-2-via-in-Check·+else-this-lt1-2, in_default-2-via-in-Lines·+else-this-lt1-3, in_default-2-via-in-Trial·+then-this-lt4, in_default-2-via-in-Trial·+else-this-lt4+else-this-lt5, in_default-2-via-in-Report·+else-this-lt1-4, in_default-2-via-in-Help·+else-this-lt1-5}
+use Rattle.script.proofs.parsing.parse.Goals.{in_default-2-via-in-Parcel+then-rest-lt1, in_default-2-via-in-Parcel+else-rest-lt1+else-this-lt2, in_default-2-via-in-Save+then-this-lt1, in_default-2-via-in-Save+else-this-lt1+else-this-lt2-2, in_default-2-via-in-Check+else-this-lt1-2, in_default-2-via-in-Lines+else-this-lt1-3, in_default-2-via-in-Trial+then-this-lt4, in_default-2-via-in-Trial+else-this-lt4+else-this-lt5, in_default-2-via-in-Report+else-this-lt1-4, in_default-2-via-in-Help+else-this-lt1-5}
 
 no_words : (ws : List Word) → length ws < 1 → Err (unknown []) ≡ command_read (texts ws)
 no_words [] h = refl
@@ -51,14 +50,14 @@ returns-in-Help-empty c =
 pub returns-in_default-2 : goal.returns-in_default-2
 returns-in_default-2 c =
     elim c.in_default-2.branch [
-      | in_default-2-via-in-Parcel·+then-rest-lt1 w ↦ says c.args.words.now c.in-Some.verb Parcel _ (omega (arith, ltb-true, ltb-false)) c.in-Some.ensures (cc) (no_file reads _ (rest c.args.words.now) (omega (arith, ltb-true, ltb-false)))
-      | in_default-2-via-in-Parcel·+else-rest-lt1+else-this-lt2 w ↦ says c.args.words.now c.in-Some.verb Parcel _ (omega (arith, ltb-true, ltb-false)) c.in-Some.ensures (cc) (past_file reads _ (rest c.args.words.now) (omega (arith, ltb-true, ltb-false)))
-      | in_default-2-via-in-Save·+then-this-lt1 w ↦ says c.args.words.now c.in-Some.verb Save _ (omega (arith, ltb-true, ltb-false)) c.in-Some.ensures (cc) (no_file saves _ (rest c.args.words.now) (omega (arith, ltb-true, ltb-false)))
-      | in_default-2-via-in-Save·+else-this-lt1+else-this-lt2-2 w ↦ says c.args.words.now c.in-Some.verb Save _ (omega (arith, ltb-true, ltb-false)) c.in-Some.ensures (cc) (past_file saves _ (rest c.args.words.now) (omega (arith, ltb-true, ltb-false)))
-      | in_default-2-via-in-Check·+else-this-lt1-2 w ↦ says c.args.words.now c.in-Some.verb Check _ (omega (arith, ltb-true, ltb-false)) c.in-Some.ensures (cc) (some_left checks _ (rest c.args.words.now) (omega (arith, ltb-true, ltb-false)))
-      | in_default-2-via-in-Lines·+else-this-lt1-3 w ↦ says c.args.words.now c.in-Some.verb Lines _ (omega (arith, ltb-true, ltb-false)) c.in-Some.ensures (cc) (some_left lists _ (rest c.args.words.now) (omega (arith, ltb-true, ltb-false)))
-      | in_default-2-via-in-Trial·+then-this-lt4 w ↦ says c.args.words.now c.in-Some.verb Trial _ (omega (arith, ltb-true, ltb-false)) c.in-Some.ensures (cc) (few_bytes _ (rest c.args.words.now) (omega (arith, ltb-true, ltb-false)))
-      | in_default-2-via-in-Trial·+else-this-lt4+else-this-lt5 w ↦ says c.args.words.now c.in-Some.verb Trial _ (omega (arith, ltb-true, ltb-false)) c.in-Some.ensures (cc) (past_bytes _ (rest c.args.words.now) (omega (arith, ltb-true, ltb-false)))
-      | in_default-2-via-in-Report·+else-this-lt1-4 w ↦ says c.args.words.now c.in-Some.verb Report _ (omega (arith, ltb-true, ltb-false)) c.in-Some.ensures (cc) (some_left reports _ (rest c.args.words.now) (omega (arith, ltb-true, ltb-false)))
-      | in_default-2-via-in-Help·+else-this-lt1-5 w ↦ says c.args.words.now c.in-Some.verb Help _ (omega (arith, ltb-true, ltb-false)) c.in-Some.ensures (cc) (some_left helps _ (rest c.args.words.now) (omega (arith, ltb-true, ltb-false)))
+      | in_default-2-via-in-Parcel+then-rest-lt1 w ↦ says c.args.words.now c.in-Some.verb Parcel _ (omega (arith, ltb-true, ltb-false)) c.in-Some.ensures (cc) (no_file reads _ (rest c.args.words.now) (omega (arith, ltb-true, ltb-false)))
+      | in_default-2-via-in-Parcel+else-rest-lt1+else-this-lt2 w ↦ says c.args.words.now c.in-Some.verb Parcel _ (omega (arith, ltb-true, ltb-false)) c.in-Some.ensures (cc) (past_file reads _ (rest c.args.words.now) (omega (arith, ltb-true, ltb-false)))
+      | in_default-2-via-in-Save+then-this-lt1 w ↦ says c.args.words.now c.in-Some.verb Save _ (omega (arith, ltb-true, ltb-false)) c.in-Some.ensures (cc) (no_file saves _ (rest c.args.words.now) (omega (arith, ltb-true, ltb-false)))
+      | in_default-2-via-in-Save+else-this-lt1+else-this-lt2-2 w ↦ says c.args.words.now c.in-Some.verb Save _ (omega (arith, ltb-true, ltb-false)) c.in-Some.ensures (cc) (past_file saves _ (rest c.args.words.now) (omega (arith, ltb-true, ltb-false)))
+      | in_default-2-via-in-Check+else-this-lt1-2 w ↦ says c.args.words.now c.in-Some.verb Check _ (omega (arith, ltb-true, ltb-false)) c.in-Some.ensures (cc) (some_left checks _ (rest c.args.words.now) (omega (arith, ltb-true, ltb-false)))
+      | in_default-2-via-in-Lines+else-this-lt1-3 w ↦ says c.args.words.now c.in-Some.verb Lines _ (omega (arith, ltb-true, ltb-false)) c.in-Some.ensures (cc) (some_left lists _ (rest c.args.words.now) (omega (arith, ltb-true, ltb-false)))
+      | in_default-2-via-in-Trial+then-this-lt4 w ↦ says c.args.words.now c.in-Some.verb Trial _ (omega (arith, ltb-true, ltb-false)) c.in-Some.ensures (cc) (few_bytes _ (rest c.args.words.now) (omega (arith, ltb-true, ltb-false)))
+      | in_default-2-via-in-Trial+else-this-lt4+else-this-lt5 w ↦ says c.args.words.now c.in-Some.verb Trial _ (omega (arith, ltb-true, ltb-false)) c.in-Some.ensures (cc) (past_bytes _ (rest c.args.words.now) (omega (arith, ltb-true, ltb-false)))
+      | in_default-2-via-in-Report+else-this-lt1-4 w ↦ says c.args.words.now c.in-Some.verb Report _ (omega (arith, ltb-true, ltb-false)) c.in-Some.ensures (cc) (some_left reports _ (rest c.args.words.now) (omega (arith, ltb-true, ltb-false)))
+      | in_default-2-via-in-Help+else-this-lt1-5 w ↦ says c.args.words.now c.in-Some.verb Help _ (omega (arith, ltb-true, ltb-false)) c.in-Some.ensures (cc) (some_left helps _ (rest c.args.words.now) (omega (arith, ltb-true, ltb-false)))
     ]

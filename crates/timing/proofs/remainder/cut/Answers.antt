@@ -1,4 +1,4 @@
-use Rattle.std.proofs.Common.{◌≡◌, ℤ, sym, ap, ◌∙◌, subst, ap₂, arith, w32, SFits, to_z, of_z}
+use Rattle.std.proofs.Common.{ℤ, sym, ap, ◌∙◌, subst, ap₂, arith, w32, SFits, to_z, of_z}
 use lib.Signed.{quot_z}
 use Rattle.std.proofs.lemmas.Int.{ints, to_z-of_z}
 use Rattle.readings.proofs.Whole.{back, quotient_within}

@@ -1,5 +1,4 @@
-use Rattle.std.proofs.Common.{◌≡◌, ℤ, ◌+ℤ◌, ◌-ℤ◌, sym, ap, ◌∙◌, subst, ap₂, arith}
-use Rattle.std.proofs.lemmas.Int.{ints}
+use Rattle.std.proofs.Common.{ℤ, ◌+ℤ◌, sym, ap, ◌∙◌, subst, ap₂}
 use Rattle.readings.specs.Range.{InRange}
 use Rattle.readings.proofs.Whole.{back}
 use Rattle.timing.specs.Divisors.{cut, divisor, rest}

@@ -1,4 +1,4 @@
-use Rattle.std.proofs.Common.{◌≡◌, cond, ℤ, pos, ◌+ℤ◌, ap, ◌∙◌, ap₂}
+use Rattle.std.proofs.Common.{cond, ℤ, pos, ◌+ℤ◌, ap, ◌∙◌, ap₂}
 use Rattle.readings.specs.Range.{limit}
 use Rattle.readings.proofs.Whole.{back}
 use Rattle.timing.specs.Divisors.{cut, divisor, rest}

@@ -1,4 +1,4 @@
-use Rattle.std.proofs.Common.{sym, arith}
+use Rattle.std.proofs.Common.{arith}
 use Rattle.commands.proofs.Blocks.{scale_code, rate_code, integrate_code, delay_code}
 use Rattle.commands.proofs.command.Analog.decode.Goals as goal
 

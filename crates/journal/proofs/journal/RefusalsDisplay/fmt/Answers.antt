@@ -24,4 +24,4 @@ pub loop-number-preserved : goal.loop-number-preserved
 loop-number-preserved g c p =
     row_written g.W.Write.write_str_gives c.args.f.now c.loop-number.f c.write.new.self c.args.self.now.0 c.loop-number.number
     (c.loop-number.invariant p)
-    (c.in_ok-write.ensures.shows (c.loop-number.invariant p).plain refl)
+    (c.in_ok-write.ensures.writes (c.loop-number.invariant p).plain refl)

@@ -1,5 +1,4 @@
-use Rattle.std.proofs.Common.{arith, rules}
-use Rattle.std.proofs.lemmas.Int.{ints}
+use Rattle.std.proofs.Common.{rules}
 use Rattle.stages.specs.StageLaws.{floored_input}
 use Rattle.stages.proofs.stages.FloorTerminals.input.Goals as goal
 
