@@ -2,6 +2,6 @@
 #![tactic(auto)]
 
 #[cfg(test)]
-mod ends;
+mod end_terminals;
 #[cfg(test)]
 mod stacked;
