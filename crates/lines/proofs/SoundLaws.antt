@@ -1,15 +1,14 @@
 -- Every constant that a line can hold is a reading.
-use Rattle.std.proofs.Common.{◌≡◌, ℕ, zero, suc, ◌+◌, ◌-◌, ◌*◌, ◌/◌, ◌%◌, Bool, true, false, cond, eqb, ltb, leb, get_or, replicate, ℤ, pos, None, refl, ap, ◌∙◌, ap₂, arith}
+use Rattle.std.proofs.Common.{◌≡◌, ℕ, zero, suc, ◌+◌, ◌-◌, ◌*◌, ◌/◌, ◌%◌, Bool, true, false, cond, eqb, ltb, leb, get_or, replicate, pos, None, refl, ap, ◌∙◌, ap₂, arith}
 use mathlib.Core.Path.{fun_ext}
 use Rattle.std.proofs.lemmas.Int.{ints}
 use Rattle.readings.specs.Range.{InRange, signed_by}
-use Rattle.readings.specs.Words.{word_reading, constant_reading}
 use Rattle.commands.specs.declared.command.Analog.{Analog}
 use Rattle.commands.specs.declared.command.Analog.TheVariants as an
 use Rattle.commands.specs.declared.command.Binary.{Binary}
 use Rattle.commands.specs.declared.command.Binary.TheVariants as bit
-use Rattle.commands.specs.declared.command.Operands.{Operands}
-use Rattle.commands.specs.declared.command.Operands.TheVariants.{Unused, Constant, Reading, Readings, Gated, Bit, Bits}
+use Rattle.lines.specs.declared.kinds.Kinds.{Kinds}
+use Rattle.lines.specs.declared.kinds.Kinds.TheVariants.{Unused, Constant, Reading, Readings, Gated, Bit, Bits}
 use Rattle.lines.specs.declared.source.Source.{Source}
 use Rattle.lines.specs.declared.source.Source.TheVariants.{Fixed, Line, Input, Switch}
 use Rattle.lines.specs.Commands.{as_number}
@@ -57,7 +56,7 @@ bit_in a =
     (in_cond (eqb a 0xA0) (Switch 0) upper zero_in
     (in_cond (leb 0xF8 a) (Switch (a - 0xF7)) last zero_in (in_cond (eqb a 0xBD) (Fixed (pos 1)) (Fixed (pos 0)) one_in zero_in)))
 
-pub sound_sources : (o : Operands) (a b : ℕ) → SoundSources (sources_of o a b)
+pub sound_sources : (o : Kinds) (a b : ℕ) → SoundSources (sources_of o a b)
 sound_sources Unused a b = (zero_in, zero_in)
 sound_sources Constant a b = let n = (a + 256 * b) / 4 * 4 in (signed_in (leb 0x8000 n) n, zero_in)
 sound_sources Reading a b = (reading_in a, zero_in)

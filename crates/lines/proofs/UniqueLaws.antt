@@ -1,10 +1,10 @@
 -- A line has one wait and one diagram value, and only a plain line has them.
-use Rattle.std.proofs.Common.{◌≡◌, ℕ, suc, max, true, false, cond, List, ℤ, sym, refl, ap, ◌∙◌, subst, ap₂, ⊎_elim}
+use Rattle.std.proofs.Common.{◌≡◌, ℕ, suc, max, false, cond, List, ℤ, sym, refl, ap, ◌∙◌, subst, ap₂, ⊎_elim}
 use Rattle.lines.specs.declared.source.Source.{Source}
 use Rattle.lines.specs.declared.source.Source.TheVariants.{Fixed, Line, Input, Switch}
-use Rattle.lines.specs.View.{Command, holds, gives, remembers, holding, remembering, source_a, source_b, Moment, at}
+use Rattle.lines.specs.View.{Command, holding, remembering, source_a, source_b, Moment, at}
 use Rattle.lines.specs.Order.{before}
-use Rattle.lines.specs.Diagram.{Uses, as_a, as_b, Feeds, Diagram, Reaches, Forgetful, LoopFree, Plain, adds, wait_from, Waits, waits, valued, applied, value_from, Stands, stands}
+use Rattle.lines.specs.Diagram.{as_a, as_b, Feeds, Reaches, Forgetful, LoopFree, Plain, adds, wait_from, Waits, waits, valued, applied, value_from, Stands, stands}
 use Rattle.lines.specs.Facts.{Unique}
 use Rattle.lines.proofs.DiagramLaws.{Diagram-split}
 

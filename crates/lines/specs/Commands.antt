@@ -1,7 +1,6 @@
 -- The command of each line, as cycles, diagrams and runs see it.
-use Rattle.std.specs.Prelude.{ℕ, Bool, true, false, cond, List, ℤ, pos, Some, None, Option, int_lt}
+use Rattle.std.specs.Prelude.{ℕ, Bool, true, false, List, ℤ, pos, Some, None, Option, int_lt}
 use Rattle.readings.specs.declared.settings.Divisor.{Divisor}
-use Rattle.readings.specs.declared.settings.Rate.{Rate}
 use Rattle.readings.specs.declared.word.Word.{Word}
 use Rattle.arithmetic.specs.declared.operation.Operation.{Operation}
 use Rattle.arithmetic.specs.declared.operation.Operation.TheVariants as op
@@ -22,8 +21,6 @@ use Rattle.commands.specs.declared.command.Analog.{Analog}
 use Rattle.commands.specs.declared.command.Analog.TheVariants as an
 use Rattle.commands.specs.declared.command.Binary.{Binary}
 use Rattle.commands.specs.declared.command.Binary.TheVariants as bit
-use Rattle.lines.specs.declared.program.AnalogWork.{AnalogWork}
-use Rattle.lines.specs.declared.program.BinaryWork.{BinaryWork}
 use Rattle.lines.specs.declared.program.Sources.{Sources}
 use Rattle.lines.specs.Programs.{constant_in}
 use Rattle.lines.specs.View.{Command, holds, gives, remembers, Held}

@@ -4,9 +4,9 @@ use Rattle.readings.specs.Range.{InRange}
 use Rattle.readings.specs.Words.{constant_reading}
 use Rattle.commands.specs.declared.command.Analog.TheVariants as an
 use Rattle.commands.specs.declared.command.Binary.TheVariants as bit
-use Rattle.commands.specs.declared.command.Operands.{Operands}
-use Rattle.commands.specs.declared.command.Operands.TheVariants.{Unused, Constant, Reading, Readings, Gated, Bit, Bits}
-use Rattle.commands.specs.Properties.{analog_operands, binary_operands}
+use Rattle.lines.specs.declared.kinds.Kinds.{Kinds}
+use Rattle.lines.specs.declared.kinds.Kinds.TheVariants.{Unused, Constant, Reading, Readings, Gated, Bit, Bits}
+use Rattle.lines.specs.Kinds.{analog_kinds, binary_kinds}
 use Rattle.parcel.specs.declared.configuration.AnalogLine.{AnalogLine}
 use Rattle.parcel.specs.declared.configuration.BinaryLine.{BinaryLine}
 use Rattle.lines.specs.declared.program.AnalogWork.{AnalogWork}
@@ -24,8 +24,8 @@ unused = Fixed (pos 0)
 abbrev pub constant_of : (sr1 sr2 : ℕ) → Source
 constant_of a b = Fixed (constant_reading (a + 256 * b))
 
--- what the source bytes name, by the operands of the command
-abbrev pub sources_of : Operands → (sr1 sr2 : ℕ) → Sources
+-- what the source bytes name, by the kinds of the command's sources
+abbrev pub sources_of : Kinds → (sr1 sr2 : ℕ) → Sources
 sources_of Unused a b = record { a = unused; b = unused }
 sources_of Constant a b = record { a = constant_of a b; b = unused }
 sources_of Reading a b = record { a = reading_source a; b = unused }
@@ -36,11 +36,11 @@ sources_of Bits a b = record { a = bit_source a; b = bit_source b }
 
 -- an analog line
 abbrev pub analog_work : AnalogLine → AnalogWork
-analog_work l = record { command = l.command; sources = sources_of (analog_operands l.command) l.sr1 l.sr2 }
+analog_work l = record { command = l.command; sources = sources_of (analog_kinds l.command) l.sr1 l.sr2 }
 
 -- a binary line
 abbrev pub binary_work : BinaryLine → BinaryWork
-binary_work l = record { command = l.command; sources = sources_of (binary_operands l.command) l.sr1 l.sr2 }
+binary_work l = record { command = l.command; sources = sources_of (binary_kinds l.command) l.sr1 l.sr2 }
 
 -- a line of a configuration that says nothing
 abbrev pub blank_binary : BinaryLine

@@ -1,5 +1,5 @@
 -- A line as cycles, diagrams and runs see it.
-use Rattle.std.specs.Prelude.{ℕ, Bool, true, false, cond, ℤ, pos, Some, None, Option, nat_lt}
+use Rattle.std.specs.Prelude.{ℕ, Bool, true, false, cond, ℤ, pos, None, Option, nat_lt}
 use Rattle.lines.specs.declared.source.Source.{Source}
 use Rattle.lines.specs.declared.source.Source.TheVariants.{Fixed, Line, Input, Switch}
 

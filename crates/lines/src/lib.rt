@@ -2,6 +2,7 @@
 #![tactic(auto)]
 
 pub mod facts;
+mod kinds;
 pub mod program;
 pub mod resolving;
 pub mod source;

@@ -4,9 +4,11 @@ ghost use Rattle.lines.specs.Board.{command_in, command_of};
 ghost use Rattle.lines.specs.Programs.{analog_work, binary_work, blank_analog, blank_binary, constant_of, idle_analog, idle_binary, sources_of};
 ghost use Rattle.lines.specs.View.{nothing};
 
+use crate::kinds;
+use crate::kinds::Kinds;
 use crate::program::{AnalogWork, BinaryWork, Program, Sources};
 use crate::source::Source;
-use commands::command::{Analog, Binary, Operands};
+use commands::command::{Analog, Binary};
 use parcel::configuration::{AnalogLine, BinaryLine, Configuration};
 use readings::word::Word;
 
@@ -26,19 +28,19 @@ fn constant(sr1: u8, sr2: u8) -> Source
     Source::Fixed(word.constant().value() as i16)
 }
 
-// What the source bytes of a line name, by the operands of its command.
-fn resolve(operands: Operands, sr1: u8, sr2: u8) -> Sources
-    ensures { result ≡ sources_of operands sr1 sr2 }
+// What the source bytes of a line name, by their kinds.
+fn resolve(kinds: Kinds, sr1: u8, sr2: u8) -> Sources
+    ensures { result ≡ sources_of kinds sr1 sr2 }
 {
     let none = Source::Fixed(0);
-    let (a, b) = match operands {
-        Operands::Unused => (none, none),
-        Operands::Constant => (constant(sr1, sr2), none),
-        Operands::Reading => (Source::reading(sr1), none),
-        Operands::Readings => (Source::reading(sr1), Source::reading(sr2)),
-        Operands::Gated => (Source::reading(sr1), Source::bit(sr2)),
-        Operands::Bit => (Source::bit(sr1), none),
-        Operands::Bits => (Source::bit(sr1), Source::bit(sr2)),
+    let (a, b) = match kinds {
+        Kinds::Unused => (none, none),
+        Kinds::Constant => (constant(sr1, sr2), none),
+        Kinds::Reading => (Source::reading(sr1), none),
+        Kinds::Readings => (Source::reading(sr1), Source::reading(sr2)),
+        Kinds::Gated => (Source::reading(sr1), Source::bit(sr2)),
+        Kinds::Bit => (Source::bit(sr1), none),
+        Kinds::Bits => (Source::bit(sr1), Source::bit(sr2)),
     };
     Sources { a, b }
 }
@@ -50,7 +52,7 @@ impl AnalogWork {
     {
         AnalogWork {
             command: line.command,
-            sources: resolve(line.command.operands(), line.sr1, line.sr2),
+            sources: resolve(kinds::analog(line.command), line.sr1, line.sr2),
         }
     }
 }
@@ -62,7 +64,7 @@ impl BinaryWork {
     {
         BinaryWork {
             command: line.command,
-            sources: resolve(line.command.operands(), line.sr1, line.sr2),
+            sources: resolve(kinds::binary(line.command), line.sr1, line.sr2),
         }
     }
 }

@@ -1,5 +1,5 @@
 -- What recall, adjust and load make of the lines that the arrays stand for.
-use Rattle.std.proofs.Common.{◌≡◌, ℕ, ◌+◌, ◌-◌, ◌<◌, ◌≤◌, Bool, false, cond, ltb, List, length, get_or, set, ℤ, pos, Some, None, Option, sym, refl, ap, ◌∙◌, ⊎_elim, arith}
+use Rattle.std.proofs.Common.{◌≡◌, ℕ, ◌+◌, ◌-◌, ◌<◌, ◌≤◌, false, ltb, List, length, get_or, set, ℤ, pos, Some, None, Option, sym, refl, ap, ◌∙◌, ⊎_elim, arith}
 use mathlib.Core.Path.{fun_ext}
 use lib.Seq.{set-get_or}
 use Rattle.std.proofs.lemmas.Bool.{cases_lt, cond-false, le-ltb}
@@ -9,7 +9,7 @@ use Rattle.commands.specs.declared.command.Binary.TheVariants as bit
 use Rattle.lines.specs.declared.program.Program.{Program}
 use Rattle.lines.specs.declared.program.Sources.{Sources}
 use Rattle.lines.specs.View.{Command, holds, gives, remembers, Held}
-use Rattle.lines.specs.Board.{analog_command, binary_command, command_of}
+use Rattle.lines.specs.Board.{analog_command, command_of}
 use Rattle.lines.specs.Commands.{as_number, binary_view}
 use Rattle.lines.specs.Programs.{idle_analog, idle_binary}
 use Rattle.machine.specs.declared.values.Values.{Values}

@@ -1,5 +1,5 @@
 -- The bits of the output lines as a number, from the last to the first.
-use Rattle.std.proofs.Common.{◌≡◌, ℕ, suc, ◌+◌, ◌-◌, ◌*◌, ◌^◌, ◌<◌, ◌≤◌, cond, List, length, get_or, drop, sym, ap, ◌∙◌, pow-suc, arith, drop-cons}
+use Rattle.std.proofs.Common.{◌≡◌, ℕ, suc, ◌+◌, ◌-◌, ◌*◌, ◌^◌, ◌<◌, ◌≤◌, cond, List, length, get_or, drop, ap, ◌∙◌, pow-suc, arith, drop-cons}
 use Rattle.lines.specs.View.{Held}
 use Rattle.lines.specs.Commands.{as_bit}
 use Rattle.machine.specs.Outputs.{packed}

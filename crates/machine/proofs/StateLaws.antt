@@ -6,7 +6,7 @@ use Rattle.readings.specs.Range.{InRange}
 use Rattle.readings.specs.declared.word.Word.{Word}
 use Rattle.lines.specs.declared.program.AnalogWork.{AnalogWork}
 use Rattle.lines.specs.declared.program.Program.{Program}
-use Rattle.lines.specs.View.{Held, worked}
+use Rattle.lines.specs.View.{worked}
 use Rattle.lines.specs.Board.{analog_command, command_of}
 use Rattle.lines.specs.Commands.{Keeps, as_number, divides_by}
 use Rattle.lines.specs.Programs.{idle_analog, idle_binary}

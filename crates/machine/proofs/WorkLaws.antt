@@ -1,5 +1,5 @@
 -- The lines and commands that a machine's arrays stand for, side by side.
-use Rattle.std.proofs.Common.{◌≡◌, ℕ, ◌+◌, ◌-◌, ◌<◌, Bool, true, false, cond, ltb, get_or, ℤ, pos, None, sym, ap, ◌∙◌, arith}
+use Rattle.std.proofs.Common.{◌≡◌, ℕ, ◌+◌, ◌-◌, ◌<◌, Bool, true, false, cond, ltb, get_or, ℤ, pos, sym, ap, ◌∙◌, arith}
 use Rattle.std.proofs.lemmas.Int.{ints, clamps}
 use Rattle.std.proofs.lemmas.Bool.{cond-true, cond-false, lt-ltb, le-ltb}
 use Rattle.readings.specs.Range.{InRange}
@@ -7,7 +7,7 @@ use Rattle.commands.specs.declared.command.Analog.{Analog}
 use Rattle.lines.specs.declared.source.Source.{Source}
 use Rattle.lines.specs.declared.source.Source.TheVariants.{Fixed, Line, Input, Switch}
 use Rattle.lines.specs.declared.program.Program.{Program}
-use Rattle.lines.specs.View.{Command, holds, Held, at, worked}
+use Rattle.lines.specs.View.{Held, at, worked}
 use Rattle.lines.specs.Board.{analog_command, binary_command, command_of}
 use Rattle.lines.specs.Commands.{analog_view, as_number, binary_view, nearest, resulting}
 use Rattle.lines.specs.Programs.{constant_in, idle_analog, idle_binary}

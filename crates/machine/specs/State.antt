@@ -1,5 +1,5 @@
 -- What a machine holds, as its calls see it, and what each call makes of it.
-use Rattle.std.specs.Prelude.{ℕ, Bool, true, false, cond, ◌&&◌, List, ℤ, pos, negsuc, Some, None, Ok, Err, Option, Result, int_le}
+use Rattle.std.specs.Prelude.{ℕ, Bool, true, false, cond, ◌&&◌, List, ℤ, pos, negsuc, Some, None, Ok, Err, Result, int_le}
 use Rattle.lines.specs.View.{Command, holds, gives, remembers, Held, nothing}
 use Rattle.lines.specs.Order.{descending}
 use Rattle.lines.specs.Board.{command_of}

@@ -1,4 +1,4 @@
-use Rattle.std.proofs.Common.{◌≡◌, ◌≤◌, length, pos, sym, arith, rules}
+use Rattle.std.proofs.Common.{◌≡◌, length, pos, sym, arith, rules}
 use Rattle.std.proofs.lemmas.List.{get_or_past}
 use Rattle.machine.proofs.fetch.input.Goals as goal
 

@@ -1,4 +1,4 @@
-use Rattle.std.proofs.Common.{◌≡◌, ℕ, ◌<◌, ◌≢◌, length, get_or, pos, sym, refl, ◌∙◌, subst, arith, length-set, get_or-set_other, get_or-set_same, w16, to_z, of_z, rules, below_more}
+use Rattle.std.proofs.Common.{◌≡◌, ◌<◌, ◌≢◌, length, get_or, pos, sym, refl, ◌∙◌, subst, arith, length-set, get_or-set_other, get_or-set_same, w16, to_z, of_z, rules, below_more}
 use Rattle.std.proofs.lemmas.List.{get_or_past}
 use Rattle.std.proofs.lemmas.Int.{to_z-of_z}
 use Rattle.readings.specs.Range.{InRange}

@@ -1,4 +1,4 @@
-use Rattle.std.proofs.Common.{◌+◌, ◌*◌, sym, ap, ◌∙◌, arith}
+use Rattle.std.proofs.Common.{◌+◌, ◌*◌, sym, ◌∙◌}
 use Rattle.machine.specs.Lines.{lines_of}
 use Rattle.machine.specs.Outputs.{digital_lines}
 use Rattle.machine.proofs.OutputLaws.{doubled, packed_more}

@@ -1,5 +1,4 @@
 use Rattle.std.proofs.Common.{◌≡◌, false, get_or, pos, ap, ◌∙◌, w16, to_z, of_z, rules}
-use Rattle.std.proofs.lemmas.Int.{to_z-of_z}
 use Rattle.lines.specs.View.{Held, at}
 use Rattle.lines.specs.Commands.{as_number, binary_view, nearest, resulting}
 use Rattle.lines.specs.Programs.{idle_binary}

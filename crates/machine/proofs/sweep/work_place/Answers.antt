@@ -1,11 +1,11 @@
-use Rattle.std.proofs.Common.{◌≡◌, length, get_or, ℤ, pos, Some, None, sym, refl, ap, ◌∙◌, subst, arith, w16, to_z, of_z, rules}
+use Rattle.std.proofs.Common.{◌≡◌, length, get_or, pos, Some, None, sym, refl, ap, ◌∙◌, subst, arith, w16, to_z, of_z, rules}
 use Rattle.std.proofs.lemmas.Int.{to_z-of_z}
 use Rattle.readings.specs.declared.settings.Divisor.{Divisor}
 use Rattle.timing.specs.Divisors.{divisor}
 use Rattle.timing.specs.Remainders.{delayed, delayed_rest, integrated, integrated_rest}
 use Rattle.commands.specs.declared.command.Analog.{Analog}
 use Rattle.commands.specs.declared.command.Analog.TheVariants as an
-use Rattle.lines.specs.View.{Held, at}
+use Rattle.lines.specs.View.{at}
 use Rattle.lines.specs.Commands.{Keeps, analog_view, divides_by, nearest, resulting}
 use Rattle.lines.specs.Programs.{idle_analog}
 use Rattle.machine.specs.Lines.{brought, lines_of, standing}

@@ -16,10 +16,10 @@ loop-i-preserved c =
 each : (xs ys : List ℤ) (i : ℕ) → length xs ≡ 8 → Mapped (clamped lowest highest) (pos 0) (pos 0) 8 xs ys i → 8 ≤ i → (k : ℕ) → get_or ys k (pos 0) ≡ clamped lowest highest (get_or xs k (pos 0))
 each xs ys i l inv h = mapped_all (clamped lowest highest) (pos 0) (pos 0) 8 xs ys i l refl inv h
 
-pub invariant-of-result : goal.invariant-of-result
-invariant-of-result c =
+pub invariant_of-result : goal.invariant_of-result
+invariant_of-result c =
     let same = each c.args.inputs.now c.loop-i.readings c.loop-i.i c.told-inputs c.loop-i.invariant c.loop-i-test.false in
-    (λ k. subst InRange (sym (same k)) (clamped_in (get_or c.args.inputs.now k (pos 0))), tt)
+    record { range = λ k. subst InRange (sym (same k)) (clamped_in (get_or c.args.inputs.now k (pos 0))) }
 
 pub returns : goal.returns
 returns c =

@@ -10,12 +10,15 @@ use Rattle.machine.proofs.CallLaws.{lines_adjusted}
 use Rattle.machine.proofs.StateLaws.{same_state}
 use Rattle.machine.proofs.state.Machine.adjust.Goals as goal
 
-pub invariant-of-self : goal.invariant-of-self
-invariant-of-self c =
+pub invariant_of-self : goal.invariant_of-self
+invariant_of-self c =
     let m = c.args.self.now in
     let number : to_z w16 (of_z w16 (to_z w32 (of_z w32 c.args.number))) ≡ c.args.number = search (rules, to_z-of_z) in
     let range : InRange c.args.number = omega (arith, ints) in
-    (all_set (λ _ z. InRange z) m.values.readings (c.args.line - 64) _ m.readings (subst InRange (sym number) range), (m.remainders, tt))
+    record {
+      readings = all_set (λ _ z. InRange z) m.values.readings (c.args.line - 64) _ m.readings (subst InRange (sym number) range);
+      remainders = m.remainders;
+    }
 
 pub returns : goal.returns
 returns c =

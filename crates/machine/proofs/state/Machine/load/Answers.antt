@@ -3,8 +3,8 @@ use Rattle.lines.specs.Board.{command_in}
 use Rattle.machine.proofs.StateLaws.{lines_cleared, same_state, zero_remainders}
 use Rattle.machine.proofs.state.Machine.load.Goals as goal
 
-pub invariant-of-self : goal.invariant-of-self
-invariant-of-self c = (c.args.self.now.readings, (zero_remainders c.of-self.result.analog 192, tt))
+pub invariant_of-self : goal.invariant_of-self
+invariant_of-self c = record { readings = c.args.self.now.readings; remainders = zero_remainders c.of-self.result.analog 192 }
 
 pub returns : goal.returns
 returns c =

@@ -3,8 +3,8 @@ use Rattle.machine.proofs.CallLaws.{lines_recalled}
 use Rattle.machine.proofs.StateLaws.{same_state}
 use Rattle.machine.proofs.state.Machine.recall.Goals as goal
 
-pub invariant-of-self : goal.invariant-of-self
-invariant-of-self c = (c.defaults-self.ensures.range, (c.args.self.now.remainders, tt))
+pub invariant_of-self : goal.invariant_of-self
+invariant_of-self c = record { readings = c.defaults-self.ensures.range; remainders = c.args.self.now.remainders }
 
 pub returns : goal.returns
 returns c =
