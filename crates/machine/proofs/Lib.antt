@@ -1,6 +1,5 @@
-mod SoundLaws
-mod WorkLaws
+mod SampleLaws
+mod PlaceLaws
 mod SweepLaws
-mod StateLaws
 mod CallLaws
 mod OutputLaws

@@ -1,21 +1,27 @@
 -- The lines that a machine's arrays stand for.
-use Rattle.std.specs.Prelude.{ℕ, ◌-◌, ◌/◌, ◌%◌, ◌^◌, Bool, false, cond, List, ℤ, pos, ◌==◌, nat_lt, slice_index_or, slice_set}
+use Rattle.std.specs.Prelude.{ℕ, ◌-◌, ◌/◌, ◌%◌, ◌^◌, Bool, false, cond, List, ℤ, pos, ◌==◌, nat_lt, slice_index_or}
 use Rattle.lines.specs.View.{Held, Moment}
 use Rattle.lines.specs.Commands.{as_number}
 use Rattle.machine.specs.declared.sample.Sample.{Sample}
+use Rattle.machine.specs.declared.values.AnalogValue.{AnalogValue}
 use Rattle.machine.specs.declared.values.Values.{Values}
 
--- what each line holds: a bit is the number 0 or 1 and keeps no remainder
+-- what an analog line holds
+abbrev pub analog_held : AnalogValue → Held
+analog_held v = record { value = v.reading; remainder = v.remainder }
+
+-- what a binary line holds: the number 0 or 1, and no remainder
+abbrev pub binary_held : Bool → Held
+binary_held b = record { value = as_number b; remainder = pos 0 }
+
+-- an analog line that holds 0
+abbrev pub blank : AnalogValue
+blank = record { reading = pos 0; remainder = pos 0 }
+
+-- what each line holds
 abbrev pub lines_of : Values → ℕ → Held
 lines_of v k =
-    record {
-      value = cond (nat_lt k 0x40) (as_number (slice_index_or v.bits k false)) (slice_index_or v.readings (k - 0x40) (pos 0));
-      remainder = cond (nat_lt k 0x40) (pos 0) (slice_index_or v.remainders (k - 0x40) (pos 0));
-    }
-
--- the arrays with a reading and a remainder at place i
-abbrev pub placed : Values → ℕ → ℤ → ℤ → Values
-placed v i r m = record { readings = slice_set v.readings i r; remainders = slice_set v.remainders i m; bits = v.bits }
+    cond (nat_lt k 0x40) (binary_held (slice_index_or v.bits k false)) (analog_held (slice_index_or v.analog (k - 0x40) blank))
 
 -- what a sample brings: eight input readings, and the switch bits as a number, D00 lowest
 pub record Brought : Type 0 where

@@ -1,15 +1,19 @@
 -- What a machine holds, as its calls see it, and what each call makes of it.
-use Rattle.std.specs.Prelude.{ℕ, Bool, true, false, cond, ◌&&◌, List, ℤ, pos, negsuc, Some, None, Ok, Err, Result, int_le}
+use Rattle.std.specs.Prelude.{◌≡◌, ℕ, Bool, true, false, cond, ◌&&◌, List, ℤ, pos, negsuc, Some, None, Ok, Err, Option, Result, int_le}
 use Rattle.lines.specs.View.{Command, holds, gives, remembers, Held, nothing}
 use Rattle.lines.specs.Order.{descending}
-use Rattle.lines.specs.Board.{command_of}
+use Rattle.lines.specs.declared.program.AnalogWork.{AnalogWork}
+use Rattle.lines.specs.Board.{analog_command, command_of}
 use Rattle.machine.specs.declared.state.Machine.{Machine}
 use Rattle.machine.specs.declared.state.Mode.{Mode}
 use Rattle.machine.specs.declared.state.Mode.TheVariants.{Empty, Stopped, Running}
 use Rattle.machine.specs.declared.refusal.AdjustRefusal.{AdjustRefusal}
 use Rattle.machine.specs.declared.refusal.AdjustRefusal.TheVariants.{NotFlexible, OverRange}
-use Rattle.machine.specs.Lines.{Brought, lines_of}
-use Rattle.machine.specs.Cycle.{all_worked, next_phase, put}
+use Rattle.machine.specs.declared.values.AnalogValue.{AnalogValue}
+use Rattle.machine.specs.Lines.{Brought, analog_held, lines_of}
+use Rattle.machine.specs.Sound.{Sound}
+use Rattle.readings.specs.declared.word.Word.{Word}
+use Rattle.machine.specs.Cycle.{all_worked, next_phase, put, swept, together, worked_at}
 
 -- the mode, the order in which analog lines are worked, the command of each line, what each line holds, the phase
 pub record State : Type 0 where
@@ -30,12 +34,28 @@ state_of m =
       phase = m.phase.number;
     }
 
+-- the same with other lines
+abbrev pub with_lines : (ℕ → Held) → State → State
+with_lines lines m = record { mode = m.mode; order = m.order; command = m.command; lines = lines; phase = m.phase }
+
 -- no configuration, all values and the phase 0
 abbrev pub new : List ℕ → State
 new order =
     record { mode = Empty; order = order; command = nothing; lines = λ k. record { value = pos 0; remainder = pos 0 }; phase = 0 }
 
 -- ---- one cycle
+
+-- line k is worked from what stands
+abbrev pub line_worked : Brought → ℕ → State → State
+line_worked s k m = with_lines (put m.lines k (worked_at m.command m.phase s m.lines k)) m
+
+-- the analog lines are worked in place, one after another, in this order
+abbrev pub swept_lines : Brought → (order : List ℕ) → State → State
+swept_lines s order m = with_lines (swept m.command m.phase s order m.lines) m
+
+-- the binary lines are worked together
+abbrev pub decided : Brought → State → State
+decided s m = with_lines (together m.command m.phase s m.lines) m
 
 -- all lines are worked after a sample, and the phase goes one on
 abbrev pub cycled : Brought → State → State
@@ -56,6 +76,10 @@ loaded_mode Empty = Stopped
 loaded_mode Stopped = Stopped
 loaded_mode Running = Running
 
+-- an analog line with nothing left over
+abbrev pub without_remainder : AnalogValue → AnalogValue
+without_remainder v = record { reading = v.reading; remainder = pos 0 }
+
 -- new commands; all values and the phase stay, and every remainder becomes 0
 abbrev pub loaded : (ℕ → Command) → State → State
 loaded c m =
@@ -69,11 +93,14 @@ loaded c m =
 
 -- ---- recall and adjust
 
-abbrev pub with_lines : (ℕ → Held) → State → State
-with_lines lines m = record { mode = m.mode; order = m.order; command = m.command; lines = lines; phase = m.phase }
-
 abbrev pub with_value : ℤ → Held → Held
 with_value z x = record { value = z; remainder = x.remainder }
+
+-- the default of a line: only FLX has one
+abbrev pub default_of : Command → Option ℤ
+default_of (holds d) = d
+default_of (gives f a b) = None
+default_of (remembers f a b) = None
 
 -- a line after a recall: FLX has its default
 abbrev pub defaulted : Command → Held → Held
@@ -81,6 +108,10 @@ defaulted (holds None) x = x
 defaulted (holds (Some d)) x = with_value d x
 defaulted (gives f a b) x = x
 defaulted (remembers f a b) x = x
+
+-- an analog line's value after a recall, with any table; it stays sound
+unfoldable pub IsRestored : AnalogWork → (old new : AnalogValue) → Type 0
+IsRestored w old new = ((t : Option (List Word)) → analog_held new ≡ defaulted (analog_command t w) (analog_held old)) × Sound w.command new
 
 abbrev pub recalled : State → State
 recalled m = with_lines (λ k. defaulted (m.command k) (m.lines k)) m

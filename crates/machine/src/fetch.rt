@@ -1,50 +1,42 @@
 // What stands at a source.
+ghost use Rattle.std.specs.Prelude.{◌≡◌, pos, slice_index_or};
 ghost use Rattle.lines.specs.Commands.{as_number};
+ghost use Rattle.lines.specs.Programs.{constant_in};
 ghost use Rattle.lines.specs.View.{at};
 ghost use Rattle.machine.specs.Lines.{brought, lines_of, standing, switch_of};
-ghost use Rattle.std.specs.Prelude.{◌≡◌, pos, slice_index_or};
+ghost use Rattle.readings.specs.Range.{InRange};
 
 use crate::sample::Sample;
-use crate::values::Values;
+use crate::state::Machine;
 use lines::source::Source;
 
-fn as_number(bit: bool) -> i16
-    ensures { result ≡ as_number bit }
-{
-    if bit { 1 } else { 0 }
-}
-
-pub(crate) fn line(values: &Values, address: u8) -> i16
-    ensures { result ≡ (lines_of values.now address).value }
-{
-    let at = address as usize;
-    if at < 0x40 {
-        return as_number(values.bits[at]);
+impl Sample {
+    // The input at this place; beyond the eight there is none, which reads as 0.
+    fn input(&self, place: u8) -> i16
+        ensures { result ≡ slice_index_or self.now.inputs place (pos 0) }
+    {
+        self.inputs.get(usize::from(place)).copied().unwrap_or(0)
     }
-    values.readings[at - 0x40]
+
+    // The switch bit of this number, as 0 or 1.
+    fn switch(&self, number: u8) -> i16
+        ensures { result ≡ as_number (switch_of self.now.bits number) }
+    {
+        i16::from(number < 9 && (self.bits >> number) % 2 == 1)
+    }
 }
 
-fn input(sample: &Sample, place: u8) -> i16
-    ensures { result ≡ slice_index_or sample.now.inputs place (pos 0) }
-{
-    let place = place as usize;
-    if place < 8 { sample.inputs[place] } else { 0 }
-}
-
-fn switch(sample: &Sample, number: u8) -> i16
-    ensures { result ≡ as_number (switch_of sample.now.bits number) }
-{
-    as_number(number < 9 && (sample.bits >> number) % 2 == 1)
-}
-
-// The number at a source; a bit is 0 or 1.
-pub(crate) fn number(source: Source, values: &Values, sample: &Sample) -> i16
-    ensures { result ≡ at (standing (brought sample.now) (lines_of values.now)) source }
-{
-    match source {
-        Source::Fixed(z) => z,
-        Source::Line(address) => line(values, address),
-        Source::Input(place) => input(sample, place),
-        Source::Switch(i) => switch(sample, i),
+impl Machine {
+    // The number at a source; a bit is 0 or 1.
+    pub(crate) fn number(&self, source: Source, sample: &Sample) -> i16
+        ensures value { result ≡ at (standing (brought sample.now) (lines_of self.now.values)) source }
+        ensures range { InRange (constant_in source) → InRange result }
+    {
+        match source {
+            Source::Fixed(z) => z,
+            Source::Line(address) => self.values.line(address),
+            Source::Input(place) => sample.input(place),
+            Source::Switch(i) => sample.switch(i),
+        }
     }
 }

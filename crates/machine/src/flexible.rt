@@ -1,15 +1,19 @@
 // The lines whose readings can be set: FLX.
-ghost use Rattle.std.specs.Prelude.{◌≡◌, ℕ, ◌<◌, ◌≤◌, true, List, ℤ, pos, Option, slice_index_or};
+ghost use Rattle.std.specs.Prelude.{◌≡◌, ℕ, ◌+◌, ◌<◌, List, Option, IfSome, is_some, slice_index_or};
 ghost use Rattle.lines.specs.Board.{analog_command, command_of};
 ghost use Rattle.lines.specs.Programs.{constant_in, idle_analog};
-ghost use Rattle.machine.specs.Sound.{Readings};
-ghost use Rattle.machine.specs.State.{defaulted, flexible};
+ghost use Rattle.machine.specs.Lines.{blank};
+ghost use Rattle.machine.specs.Sound.{AllSound, Sound};
+ghost use Rattle.machine.specs.State.{IsRestored, default_of as default_in, flexible};
 ghost use Rattle.readings.specs.Range.{InRange};
 ghost use Rattle.readings.specs.declared.word.Word.{Word};
 
+use crate::state::Machine;
+use crate::values::AnalogValue;
 use commands::command::Analog;
 use lines::program::{AnalogWork, Program};
 use lines::source::Source;
+use std::array;
 
 fn constant(source: Source) -> i16
     ensures { result ≡ constant_in source }
@@ -20,46 +24,45 @@ fn constant(source: Source) -> i16
     }
 }
 
-fn is_adjustable(work: AnalogWork) -> bool
-    ensures { (t : Option (List Word)) → result ≡ flexible (analog_command t work) }
+// The default of an FLX line; no other line has one.
+fn default_of(work: AnalogWork) -> Option<i16>
+    ensures value { (t : Option (List Word)) → result ≡ default_in (analog_command t work) }
+    ensures constant { IfSome result (λ z. z ≡ constant_in work.sources.a) }
 {
     match work.command {
-        Analog::Flx => true,
-        _ => false,
+        Analog::Flx => Some(constant(work.sources.a)),
+        _ => None,
     }
 }
 
-// Whether the line at this address is FLX; then it is an analog one.
-pub(crate) fn is_flexible(program: &Program, line: u8) -> bool
-    ensures answer { result ≡ flexible (command_of program.now line) }
-    ensures analog { result ≡ true → 64 ≤ line }
-{
-    line >= 0x40 && is_adjustable(program.analog[line as usize - 0x40])
-}
-
-// The default of an FLX line, and what any other line holds.
-fn restore(work: AnalogWork, held: i16) -> i16
-    requires own { InRange held }
+// What a line holds after a recall.
+fn restore(work: AnalogWork, own: AnalogValue) -> AnalogValue
+    requires own { Sound work.command own }
     requires constant { InRange (constant_in work.sources.a) }
-    ensures range { InRange result }
-    ensures value { (t : Option (List Word)) (m : ℤ) → result ≡ (defaulted (analog_command t work) (record { value = held; remainder = m })).value }
+    ensures { IsRestored work own result }
 {
-    match work.command {
-        Analog::Flx => constant(work.sources.a),
-        _ => held,
+    match default_of(work) {
+        Some(reading) => AnalogValue { reading, ..own },
+        None => own,
     }
 }
 
-// The readings with every FLX line at its default.
-pub(crate) fn defaults(program: &Program, readings: &[i16; 192]) -> [i16; 192]
-    requires { Readings readings.now }
-    ensures range { Readings result }
-    ensures past { (k : ℕ) → 192 ≤ k → slice_index_or result k (pos 0) ≡ slice_index_or readings.now k (pos 0) }
-    ensures value { (t : Option (List Word)) (m : ℤ) (k : ℕ) → k < 192 → slice_index_or result k (pos 0) ≡ (defaulted (analog_command t (slice_index_or program.now.analog k idle_analog)) (record { value = slice_index_or readings.now k (pos 0); remainder = m })).value }
+// All analog lines after a recall.
+pub(crate) fn recalled(program: &Program, analog: &[AnalogValue; 192]) -> [AnalogValue; 192]
+    requires { AllSound program.now.analog analog.now }
+    ensures { (k : ℕ) → k < 192 → IsRestored (slice_index_or program.now.analog k idle_analog) (slice_index_or analog.now k blank) (slice_index_or result k blank) }
 {
-    let mut restored = [0; 192];
-    for place in 0..192 {
-        restored[place] = restore(program.analog[place], readings[place]);
+    array::from_fn(|place| restore(program.analog[place], analog[place]))
+}
+
+impl Machine {
+    // The place of an FLX line from 40H on.
+    pub(crate) fn flexible_place(&self, line: u8) -> Option<usize>
+        ensures answer { is_some result ≡ flexible (command_of self.now.program line) }
+        ensures place { IfSome result (λ i. 64 + i ≡ line) }
+    {
+        let place = usize::from(line).checked_sub(0x40)?;
+        default_of(self.program.analog[place])?;
+        Some(place)
     }
-    restored
 }

@@ -10,3 +10,4 @@ pub mod sample;
 pub mod state;
 mod sweep;
 mod values;
+mod work;

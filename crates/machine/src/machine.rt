@@ -2,18 +2,16 @@
 ghost use Rattle.lines.specs.Board.{command_in};
 ghost use Rattle.lines.specs.Order.{descending};
 ghost use Rattle.machine.specs.Lines.{brought};
-ghost use Rattle.machine.specs.State.{adjust_rule, adjust_told, adjusted, cycled, loaded, loaded_mode, new as new_state, recalled, state_of};
+ghost use Rattle.machine.specs.State.{adjust_rule, adjust_told, adjusted, cycled, loaded, loaded_mode, new as new_state, recalled as recalled_state, state_of, without_remainder};
 ghost use Rattle.parcel.specs.Parcel.{asked, configured};
 ghost use Rattle.parcel.specs.Verdicts.{verdict};
 ghost use Rattle.std.specs.Prelude.{◌≡◌, is_ok, if◌then◌else◌};
 
-use crate::fetch::line as held;
-use crate::flexible::{defaults, is_flexible};
+use crate::flexible::recalled;
 use crate::refusal::AdjustRefusal;
 use crate::sample::Sample;
 use crate::state::{Machine, Mode};
-use crate::sweep::{decide, sweep};
-use crate::values::Values;
+use crate::values::{AnalogValue, Values};
 use lines::program::Program;
 use parcel::configuration::read;
 use parcel::refusal::Refusal;
@@ -30,17 +28,30 @@ fn loaded_mode(mode: Mode) -> Mode
     }
 }
 
+// An analog line with nothing left over.
+fn cleared(own: AnalogValue) -> AnalogValue
+    ensures { result ≡ without_remainder own }
+{
+    AnalogValue {
+        reading: own.reading,
+        remainder: 0,
+    }
+}
+
 impl Machine {
     // No configuration, all values and the phase 0.
     pub fn new() -> Machine
         ensures { state_of result ≡ new_state descending }
     {
+        let blank = AnalogValue {
+            reading: 0,
+            remainder: 0,
+        };
         Machine {
             mode: Mode::Empty,
             program: Program::empty(),
             values: Values {
-                readings: [0; 192],
-                remainders: [0; 192],
+                analog: [blank; 192],
                 bits: [false; 64],
             },
             phase: Phase::first(),
@@ -57,7 +68,7 @@ impl Machine {
     pub fn value(&self, line: u8) -> i16
         ensures { result ≡ ((state_of self.now).lines line).value }
     {
-        held(&self.values, line)
+        self.values.line(line)
     }
 
     // Takes a parcel if every question answers yes: values and phase stay, remainders are lost.
@@ -67,16 +78,16 @@ impl Machine {
     {
         let configuration = read(parcel)?;
         self.program = Program::of(&configuration);
-        self.values.remainders = [0; 192];
+        self.values.analog = self.values.analog.map(cleared);
         self.mode = loaded_mode(self.mode);
         Ok(())
     }
 
     // Gives every FLX line its default.
     pub fn recall(&mut self)
-        ensures { state_of self.new ≡ recalled (state_of self.old) }
+        ensures { state_of self.new ≡ recalled_state (state_of self.old) }
     {
-        self.values.readings = defaults(&self.program, &self.values.readings);
+        self.values.analog = recalled(&self.program, &self.values.analog);
     }
 
     // Sets the reading of an FLX line.
@@ -84,13 +95,13 @@ impl Machine {
         ensures answer { adjust_told result ≡ adjust_rule ((state_of self.old).command line) number }
         ensures state { state_of self.new ≡ adjusted line number (state_of self.old) }
     {
-        if !is_flexible(&self.program, line) {
+        let Some(place) = self.flexible_place(line) else {
             return Err(AdjustRefusal::NotFlexible);
-        }
+        };
         if number < -31984 || number > 31984 {
             return Err(AdjustRefusal::OverRange);
         }
-        self.values.readings[line as usize - 0x40] = number as i16;
+        self.values.analog[place].reading = number as i16;
         Ok(())
     }
 
@@ -98,8 +109,8 @@ impl Machine {
     pub fn cycle(&mut self, sample: &Sample)
         ensures { state_of self.new ≡ cycled (brought sample.now) (state_of self.old) }
     {
-        sweep(&self.program, self.phase, sample, &mut self.values);
-        self.values.bits = decide(&self.program, sample, &self.values);
+        self.sweep(sample);
+        self.decide(sample);
         self.phase = self.phase.next();
     }
 }

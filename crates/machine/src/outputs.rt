@@ -6,7 +6,6 @@ ghost use Rattle.machine.specs.Lines.{lines_of};
 ghost use Rattle.machine.specs.Outputs.{digital_lines, outputs_of, packed};
 ghost use Rattle.machine.specs.State.{state_of};
 
-use crate::fetch::line;
 use crate::state::Machine;
 use crate::values::Values;
 use readings::reading::Reading;
@@ -28,7 +27,7 @@ fn bit(values: &Values, address: u8) -> u16
     ensures value { result ≡ (if as_bit (lines_of values.now address).value then 1 else 0) }
     ensures few { result ≤ 1 }
 {
-    if line(values, address) > 0 { 1 } else { 0 }
+    u16::from(values.line(address) > 0)
 }
 
 fn digital(values: &Values) -> u16
@@ -49,8 +48,8 @@ impl Machine {
         ensures few { result.digital < 8192 }
     {
         Outputs {
-            first: Reading::nearest(self.values.readings[0] as i32),
-            second: Reading::nearest(self.values.readings[1] as i32),
+            first: Reading::nearest(self.values.analog[0].reading.into()),
+            second: Reading::nearest(self.values.analog[1].reading.into()),
             digital: digital(&self.values),
         }
     }

@@ -13,10 +13,9 @@ pub struct Sample {
 }
 
 fn nearest(value: i16) -> i16
-    ensures value { result ≡ clamped lowest highest value }
-    ensures range { InRange result }
+    ensures { result ≡ clamped lowest highest value }
 {
-    Reading::nearest(value as i32).value() as i16
+    Reading::nearest(i32::from(value)).value() as i16
 }
 
 impl Sample {
@@ -25,12 +24,8 @@ impl Sample {
         ensures inputs { (k : ℕ) → slice_index_or result.inputs k (pos 0) ≡ clamped lowest highest (slice_index_or inputs.now k (pos 0)) }
         ensures bits { result.bits ≡ bits }
     {
-        let mut readings = [0; 8];
-        for i in 0..8 {
-            readings[i] = nearest(inputs[i]);
-        }
         Sample {
-            inputs: readings,
+            inputs: inputs.map(nearest),
             bits,
         }
     }

@@ -1,5 +1,5 @@
 // What a machine holds.
-ghost use Rattle.machine.specs.Sound.{Readings, Remainders};
+ghost use Rattle.machine.specs.Sound.{AllSound};
 
 use crate::values::Values;
 use lines::program::Program;
@@ -19,6 +19,5 @@ pub struct Machine {
     pub(crate) program: Program,
     pub(crate) values: Values,
     pub(crate) phase: Phase,
-    ghost readings: { Readings values.readings },
-    ghost remainders: { Remainders program.analog values.remainders },
+    ghost sound: { AllSound program.analog values.analog },
 }

@@ -1,9 +1,30 @@
 // What the lines hold.
+ghost use Rattle.machine.specs.Lines.{lines_of};
+ghost use Rattle.std.specs.Prelude.{◌≡◌};
 
-// Readings and remainders of the analog lines by place from 40H, and the bits of the binary lines.
+// The reading of an analog line, and the remainder that an integrator or a delay keeps.
+#[derive(Clone, Copy)]
+pub struct AnalogValue {
+    pub reading: i16,
+    pub remainder: i16,
+}
+
+// The analog lines by place from 40H, and the bits of the binary lines.
 #[derive(Clone, Copy)]
 pub struct Values {
-    pub readings: [i16; 192],
-    pub remainders: [i16; 192],
+    pub analog: [AnalogValue; 192],
     pub bits: [bool; 64],
+}
+
+impl Values {
+    // What the line at this address holds; a bit is 0 or 1.
+    pub(crate) fn line(&self, address: u8) -> i16
+        ensures { result ≡ (lines_of self.now address).value }
+    {
+        let at = usize::from(address);
+        if at < 0x40 {
+            return i16::from(self.bits[at]);
+        }
+        self.analog[at - 0x40].reading
+    }
 }

@@ -1,9 +1,11 @@
-use Rattle.std.proofs.Common.{refl, rules}
-use Rattle.machine.proofs.StateLaws.{fresh_lines, same_state, zero_readings, zero_remainders}
+use Rattle.lines.specs.Order.{descending}
+use Rattle.machine.specs.declared.state.Mode.TheVariants.{Empty}
+use Rattle.machine.proofs.CallLaws.{all_blank, fresh_lines}
 use Rattle.machine.proofs.state.Machine.new.Goals as goal
 
 pub invariant_of-result : goal.invariant_of-result
-invariant_of-result c = record { readings = zero_readings 192; remainders = zero_remainders c.empty.result.analog 192 }
+invariant_of-result c = record { sound = all_blank c.empty.result.analog 192 }
 
 pub returns : goal.returns
-returns c = same_state _ _ (search rules) refl (search rules) fresh_lines (search rules)
+returns c =
+    λ j. record { mode = Empty; order = descending; command = c.empty.ensures j; lines = fresh_lines j; phase = c.first.ensures j }

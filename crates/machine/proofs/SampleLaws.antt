@@ -1,4 +1,4 @@
--- Everything that a machine makes is a reading, and every remainder stays below its divisor.
+-- The nearest reading is a reading.
 use Rattle.std.proofs.Common.{ℤ, arith}
 use Rattle.std.proofs.lemmas.Int.{ints, clamps}
 use Rattle.readings.specs.Range.{InRange, clamped, highest, lowest}
