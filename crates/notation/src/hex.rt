@@ -4,6 +4,7 @@ ghost use Rattle.notation.specs.Bytes.{byte_read, byte_text, hex_read};
 
 use std::fmt;
 
+// The digit that a character writes; `to_digit` would take small letters too.
 fn hex_value(c: u8) -> Option<u8>
     ensures value { result ≡ hex_read c }
     ensures bound { IfSome result (λ d. d < 16) }

@@ -32,6 +32,7 @@ impl fmt::Display for Percent {
 
     fn fmt<W: fmt::Write>(&self, f: &mut fmt::Formatter<W>) -> fmt::Result {
         let sign = if self.minus { '-' } else { '+' };
+        // `{:03}` would write four digits of a number past 999, and nothing here bounds the tenths
         let tenths = self.tenths;
         write!(
             f,

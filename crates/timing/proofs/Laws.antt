@@ -7,8 +7,9 @@ use Rattle.readings.specs.declared.settings.Divisor.{Divisor}
 use Rattle.readings.specs.declared.settings.Divisor.TheVariants.{D10, D40, D100, D250, D1200, D4800, D12000, D30000}
 use Rattle.timing.specs.Divisors.{Below, cut, divisor, rest}
 use Rattle.std.specs.Prelude.{int_div, int_rem}
+use Rattle.std.specs.Int.{int_min, int_max}
 use Rattle.readings.specs.Range.{InRange}
-use Rattle.timing.specs.Ramps.{Between}
+use Rattle.timing.specs.Ramps.{Between, toward}
 
 -- every divisor is 1 at least
 pub divisor_low : (d : Divisor) → pos 1 ≤ℤ divisor d
@@ -52,3 +53,7 @@ delay_between (pos k) a b m p h = go (a -ℤ b +ℤ m) refl
 -- what lies between two readings is a reading
 pub between_range : (a b z : ℤ) → InRange a → InRange b → Between a b z → InRange z
 between_range a b z u v h = omega (arith, ints, clamps)
+
+-- a rate limiter brings its input between the ends of its reach
+pub toward_is : (n : ℕ) (a b : ℤ) → int_max (b -ℤ pos n) (int_min a (b +ℤ pos n)) ≡ toward n a b
+toward_is n a b = grind (arith, ints)

@@ -43,13 +43,7 @@ fn toward(n: u32, a: Reading, b: Reading) -> Reading
 {
     let low = b.value() - n as i32;
     let high = b.value() + n as i32;
-    if a.value() < low {
-        Reading::nearest(low)
-    } else if a.value() > high {
-        Reading::nearest(high)
-    } else {
-        a
-    }
+    Reading::nearest(a.value().clamp(low, high))
 }
 
 // RL1 to RLC: b moved toward a by the allowance of the phase.
