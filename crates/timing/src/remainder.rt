@@ -19,16 +19,7 @@ fn number(divisor: Divisor) -> i32
     ensures low { pos 1 ≤ℤ result }
     ensures high { result ≤ℤ pos 30000 }
 {
-    match divisor {
-        Divisor::D10 => 10,
-        Divisor::D40 => 40,
-        Divisor::D100 => 100,
-        Divisor::D250 => 250,
-        Divisor::D1200 => 1200,
-        Divisor::D4800 => 4800,
-        Divisor::D12000 => 12000,
-        Divisor::D30000 => 30000,
-    }
+    divisor as i32
 }
 
 impl Remainder {
