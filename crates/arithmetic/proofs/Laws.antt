@@ -1,23 +1,18 @@
 -- Laws of quotients and roots.
-use Rattle.std.proofs.Common.{◌≡◌, ℕ, zero, suc, ◌+◌, ◌*◌, ◌^◌, ◌<◌, ◌≤◌, Bool, true, false, cond, leb, ◌⊎◌, ℤ, pos, negsuc, ◌*ℤ◌, neg_ℤ, nat_abs, ◌≤ℤ◌, ◌<ℤ◌, refl, ap, inl, inr, ⊎_elim, pow-suc, zero-mul, arith}
-use Rattle.std.proofs.lemmas.Int.{ints}
-use Rattle.std.proofs.lemmas.Nat.{mul-le, div-add-mod', mod_below}
+use Rattle.std.proofs.Common.{◌≡◌, ℕ, zero, suc, ◌+◌, ◌*◌, ◌^◌, ◌<◌, ◌≤◌, Bool, true, false, cond, leb, ◌⊎◌, ◌≢◌, ℤ, pos, negsuc, ◌+ℤ◌, ◌-ℤ◌, ◌*ℤ◌, neg_ℤ, nat_abs, ◌≤ℤ◌, ◌<ℤ◌, refl, inl, inr, ⊎_elim, pow-suc, arith}
+use Rattle.std.proofs.lemmas.Int.{ints, quot-rem, rem_below, unsigned_abs-mul}
+use Rattle.std.proofs.lemmas.Nat.{mul-le}
 use Rattle.std.proofs.lemmas.Bool.{leb-true, leb-false, cases_lt}
-use Rattle.std.specs.Int.{int_signum}
+use Rattle.std.specs.Prelude.{int_div, int_rem}
 use Rattle.readings.specs.Range.{InRange}
 use Rattle.readings.proofs.Whole.{quotient_within}
 use Rattle.arithmetic.specs.Quotients.{QuotientLaw, Small, quotient, root, root_from}
-use Rattle.arithmetic.specs.Operations.{ratio, square_root}
+use Rattle.arithmetic.specs.Operations.{square_root}
 
 -- the product of two readings is far from the ends of an i32
 pub product_small : (a b : ℤ) → InRange a → InRange b → Small (a *ℤ b)
-product_small (pos a) (pos b) p q = omega (arith, ints, mul-le a b 32767 32767 (omega (arith, ints)) (omega (arith, ints)))
-product_small (pos a) (negsuc b) p q = omega (arith, ints, mul-le a (suc b) 32767 32767 (omega (arith, ints)) (omega (arith, ints)))
-product_small (negsuc a) (pos b) p q = omega (arith, ints, mul-le (suc a) b 32767 32767 (omega (arith, ints)) (omega (arith, ints)))
-product_small (negsuc a) (negsuc b) p q = omega (arith, ints, mul-le (suc a) (suc b) 32767 32767 (omega (arith, ints)) (omega (arith, ints)))
-
-pub ratio_zero : (a b : ℤ) → b ≡ pos 0 → ratio a b ≡ int_signum a *ℤ pos 31984
-ratio_zero a b e = ap (ratio a) e
+product_small a b p q =
+    omega (arith, ints, unsigned_abs-mul a b, mul-le (nat_abs a) (nat_abs b) 32767 32767 (omega (arith, ints)) (omega (arith, ints)))
 
 -- the whole root by its defining inequality
 abbrev IsRoot : ℕ → ℕ → Type 0
@@ -61,20 +56,14 @@ pub quotient_small : (n d : ℤ) → Small n → Small (quotient n d)
 unfolding quotient
 quotient_small n d h = quotient_within n d 1073741823 h.0 h.1
 
--- products with a quotient of either sign
-neg-times_pos : (q d : ℕ) → neg_ℤ (pos q) *ℤ pos d ≡ neg_ℤ (pos (q * d))
-neg-times_pos zero d = rw zero-mul
-neg-times_pos (suc q) d = refl
-
-neg-times_neg : (q d : ℕ) → neg_ℤ (pos q) *ℤ negsuc d ≡ pos (q * suc d)
-neg-times_neg zero d = rw zero-mul
-neg-times_neg (suc q) d = refl
-
 pub quotient_law : QuotientLaw
 unfolding quotient
-quotient_law (pos n) (pos zero) ne = absurd (ne refl)
-quotient_law (pos n) (pos (suc d)) ne = omega (arith, ints, div-add-mod' n (suc d), mod_below n (suc d) (omega arith))
-quotient_law (pos n) (negsuc d) ne = rw neg-times_neg (omega (arith, ints, div-add-mod' n (suc d), mod_below n (suc d) (omega arith)))
-quotient_law (negsuc n) (pos zero) ne = absurd (ne refl)
-quotient_law (negsuc n) (pos (suc d)) ne = rw neg-times_pos (omega (arith, ints, div-add-mod' (suc n) (suc d), mod_below (suc n) (suc d) (omega arith)))
-quotient_law (negsuc n) (negsuc d) ne = omega (arith, ints, div-add-mod' (suc n) (suc d), mod_below (suc n) (suc d) (omega arith))
+quotient_law n d ne = rw (left (int_div n d *ℤ d) (int_rem n d) (quot-rem n d)) (rem_below n d (nonzero d ne))
+  where
+    left : (x r : ℤ) → x +ℤ r ≡ n → n -ℤ x ≡ r
+    left x r e = omega (arith, ints)
+
+    nonzero : (d : ℤ) → d ≢ pos 0 → 0 < nat_abs d
+    nonzero (pos zero) ne = absurd (ne refl)
+    nonzero (pos (suc d)) ne = omega arith
+    nonzero (negsuc d) ne = omega arith

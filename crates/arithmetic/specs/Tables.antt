@@ -1,5 +1,5 @@
 -- The table, by its points as a function of their number.
-use Rattle.std.specs.Prelude.{ℕ, ◌+◌, ◌/◌, ◌%◌, cond, List, ℤ, pos, negsuc, ◌+ℤ◌, ◌-ℤ◌, ◌*ℤ◌, ◌≤ℤ◌, nat_lt, slice_index_or}
+use Rattle.std.specs.Prelude.{ℕ, ◌+◌, ◌/◌, ◌%◌, cond, List, ℤ, pos, negsuc, ◌+ℤ◌, ◌-ℤ◌, ◌*ℤ◌, nat_lt, slice_index_or}
 use Rattle.readings.specs.Words.{bits_of, word_reading}
 use Rattle.readings.specs.declared.word.Word.{Word}
 use Rattle.arithmetic.specs.Quotients.{quotient}
@@ -7,10 +7,6 @@ use Rattle.arithmetic.specs.Quotients.{quotient}
 -- the points that a table's words write
 abbrev pub point_of : List Word → ℕ → ℤ
 point_of ws k = word_reading (bits_of (slice_index_or ws k (record { low = 0; high = 0 })))
-
--- the difference of two readings
-abbrev pub Gap : ℤ → Type 0
-Gap z = (negsuc 65533 ≤ℤ z) × (z ≤ℤ pos 65534)
 
 -- between the points p and p + 1, r past p
 abbrev pub between : (ℕ → ℤ) → (p r : ℕ) → ℤ

@@ -1,6 +1,7 @@
 // The commands that compute a reading from readings and bits, with nothing to remember.
 #![tactic(auto)]
 
+mod fraction;
 pub mod operate;
 pub mod operation;
 mod quotients;

@@ -47,11 +47,7 @@ const INPUTS: [(i32, i32); 17] = [
 
 #[test]
 fn points_and_between(rt: HostRuntime) {
-    let mut words = [Word { low: 0, high: 0 }; 17];
-    for i in 0..17usize {
-        let (low, high) = POINTS[i];
-        words[i] = Word { low, high };
-    }
+    let words = POINTS.map(|(low, high)| Word { low, high });
     for (input, expected) in INPUTS {
         assert_eq!(rt;
             interpolate(&words, Reading::nearest(input)).value(),

@@ -6,7 +6,7 @@ use std::test::Fail;
 use timing::phase::Phase;
 use timing::ramp::{allowance, limit_rate};
 use timing::remainder::Remainder;
-use timing::steps::{delay, integrate};
+use timing::steps::{Step, delay, integrate};
 
 // Divisor, input, value, remainder; then the new value and remainder.
 type Example = (Divisor, i32, i32, i32, i32, i32);
@@ -58,24 +58,28 @@ fn ramps(rt: HostRuntime) {
     }
 }
 
-fn integrators_agree(rt: &impl Abort, examples: &[Example]) -> Result<(), Fail> {
+fn agree<F: Fn(Reading, Reading, Remainder) -> Step>(
+    rt: &impl Abort,
+    step: F,
+    examples: &[Example],
+) -> Result<(), Fail>
+    requires { F.IsAlwaysCallable step }
+{
     for (divisor, a, b, m, value, left) in examples {
         let Some(m) = Remainder::new(*divisor, *m) else {
             return Err(Fail::new("no remainder"));
         };
-        let step = integrate(Reading::nearest(*a), Reading::nearest(*b), m);
-        assert_eq!(rt;
-            (step.reading.value(), step.remainder.value()),
-            (*value, *left)
-        );
+        let Step { reading, remainder } = step(Reading::nearest(*a), Reading::nearest(*b), m);
+        assert_eq!(rt; (reading.value(), remainder.value()), (*value, *left));
     }
     Ok(())
 }
 
 #[test]
 fn integrators(rt: HostRuntime) -> Result<(), Fail> {
-    integrators_agree(
+    agree(
         &rt,
+        integrate,
         &[
             (Divisor::D10, 7, 0, 0, 0, 7),
             (Divisor::D10, 9, 0, 0, 0, 9),
@@ -105,24 +109,11 @@ fn integrators(rt: HostRuntime) -> Result<(), Fail> {
     )
 }
 
-fn delays_agree(rt: &impl Abort, examples: &[Example]) -> Result<(), Fail> {
-    for (divisor, a, b, m, value, left) in examples {
-        let Some(m) = Remainder::new(*divisor, *m) else {
-            return Err(Fail::new("no remainder"));
-        };
-        let step = delay(Reading::nearest(*a), Reading::nearest(*b), m);
-        assert_eq!(rt;
-            (step.reading.value(), step.remainder.value()),
-            (*value, *left)
-        );
-    }
-    Ok(())
-}
-
 #[test]
 fn delays(rt: HostRuntime) -> Result<(), Fail> {
-    delays_agree(
+    agree(
         &rt,
+        delay,
         &[
             (Divisor::D10, 16000, 0, 0, 1600, 0),
             (Divisor::D10, 5, 5, 9, 5, 9),

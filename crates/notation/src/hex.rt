@@ -1,12 +1,13 @@
 // A byte as two capital hexadecimal digits and an H.
-ghost use Rattle.std.specs.Prelude.{◌≡◌, ◌<◌, Some, None};
-ghost use Rattle.notation.specs.Bytes.{byte_read, byte_text, hex_digit, hex_read};
+ghost use Rattle.std.specs.Prelude.{◌≡◌, ◌<◌, Some, IfSome};
+ghost use Rattle.notation.specs.Bytes.{byte_read, byte_text, hex_read};
 
 use std::fmt;
 
+// The digit that a character writes; `to_digit` would take small letters too.
 fn hex_value(c: u8) -> Option<u8>
     ensures value { result ≡ hex_read c }
-    ensures bound { elim result [ Some d ↦ d < 16 | None ↦ Unit {0} ] }
+    ensures bound { IfSome result (λ d. d < 16) }
 {
     match c {
         b'0'..=b'9' => Some(c - b'0'),
@@ -27,18 +28,6 @@ pub fn byte_of(word: &str) -> Option<u8>
     Some(high * 16 + low)
 }
 
-fn hex_digit(n: u8) -> char
-    requires { n < 16 }
-    ensures value { result ≡ hex_digit n }
-    ensures ascii { result < 128 }
-{
-    if n < 10 {
-        char::from(b'0' + n)
-    } else {
-        char::from(b'A' + (n - 10))
-    }
-}
-
 // Shows a byte as `E2H`.
 #[derive(Clone, Copy)]
 pub struct Hex(pub u8);
@@ -47,8 +36,7 @@ impl fmt::Display for Hex {
     ghost output = { λ x. Some (byte_text x.0) };
 
     fn fmt<W: fmt::Write>(&self, f: &mut fmt::Formatter<W>) -> fmt::Result {
-        let high = hex_digit(self.0 / 16);
-        let low = hex_digit(self.0 % 16);
-        write!(f, "{high}{low}H")
+        let byte = self.0;
+        write!(f, "{byte:02X}H")
     }
 }

@@ -1,6 +1,6 @@
 // A reading in percent, to the tenth: a sign, three digits, a point and one digit.
-ghost use Rattle.std.specs.Prelude.{◌≡◌, ◌<◌, Some};
-ghost use Rattle.notation.specs.Percents.{decimal_digit, percent_of, percent_text};
+ghost use Rattle.std.specs.Prelude.{◌≡◌, Some};
+ghost use Rattle.notation.specs.Percents.{percent_of, percent_text};
 
 use readings::reading::Reading;
 use std::fmt;
@@ -27,23 +27,20 @@ impl Percent {
     }
 }
 
-// The last digit of a number.
-fn last_digit(n: u16) -> char
-    ensures value { result ≡ decimal_digit n }
-    ensures ascii { result < 128 }
-{
-    char::from(b'0' + (n % 10) as u8)
-}
-
 impl fmt::Display for Percent {
     ghost output = { λ x. Some (percent_text x) };
 
     fn fmt<W: fmt::Write>(&self, f: &mut fmt::Formatter<W>) -> fmt::Result {
         let sign = if self.minus { '-' } else { '+' };
-        let hundreds = last_digit(self.tenths / 1000);
-        let tens = last_digit(self.tenths / 100);
-        let ones = last_digit(self.tenths / 10);
-        let tenth = last_digit(self.tenths);
-        write!(f, "{sign}{hundreds}{tens}{ones}.{tenth}")
+        // `{:03}` would write four digits of a number past 999, and nothing here bounds the tenths
+        let tenths = self.tenths;
+        write!(
+            f,
+            "{sign}{}{}{}.{}",
+            tenths / 1000 % 10,
+            tenths / 100 % 10,
+            tenths / 10 % 10,
+            tenths % 10
+        )
     }
 }

@@ -1,9 +1,7 @@
 // Readings: whole numbers of 1/160 percent, so 16000 is 100.0 %.
 ghost use Rattle.readings.specs.Range.{InRange, clamped, highest, limit, lowest, readable, signed_by};
 ghost use Rattle.std.specs.Option.{option_map};
-ghost use Rattle.std.specs.Prelude.{◌≡◌, ◌<◌};
-
-const LEAST: i32 = -32767;
+ghost use Rattle.std.specs.Prelude.{◌≡◌, ◌<◌, pos, neg_ℤ, ◌≤ℤ◌};
 
 const GREATEST: i32 = 32767;
 
@@ -14,11 +12,14 @@ pub struct Reading {
 }
 
 impl Reading {
+    // The greatest limited reading, 199.9 %.
+    pub const LIMIT: i32 = 31984;
+
     // A reading exactly where the number is in range.
     pub fn new(value: i32) -> Option<Reading>
         ensures { option_map (λ x. x.value) result ≡ readable value }
     {
-        if value < LEAST || value > GREATEST {
+        if value < -GREATEST || value > GREATEST {
             return None;
         }
         Some(Reading {
@@ -31,17 +32,25 @@ impl Reading {
         ensures value { result.value ≡ clamped lowest highest value }
         ensures same { InRange value → result.value ≡ value }
     {
-        Reading {
-            value: value.clamp(LEAST, GREATEST) as i16,
-        }
+        Reading::within(value, GREATEST)
     }
 
     // Any number, brought into ±199.9 %.
+    #[tactic(auto, unfolding(crate::specs::Range::limit))]
     pub fn limited(value: i32) -> Reading
         ensures { result.value ≡ limit value }
     {
+        Reading::within(value, Reading::LIMIT)
+    }
+
+    // The number, brought between -bound and bound.
+    fn within(value: i32, bound: i32) -> Reading
+        requires low { pos 0 ≤ℤ bound }
+        requires high { bound ≤ℤ highest }
+        ensures { result.value ≡ clamped (neg_ℤ bound) bound value }
+    {
         Reading {
-            value: value.clamp(-31984, 31984) as i16,
+            value: value.clamp(-bound, bound) as i16,
         }
     }
 

@@ -22,7 +22,7 @@ impl Word {
     fn bits(self) -> u16
         ensures { result ≡ bits_of self }
     {
-        self.low as u16 + 256 * self.high as u16
+        u16::from_le_bytes([self.low, self.high])
     }
 
     // The reading that the word writes.

@@ -1,5 +1,5 @@
 -- Sample values that the definitions give.
-use Rattle.std.specs.Prelude.{ℕ, zero, suc, cond, List, [], ◌∷◌, ◌≡◌, eqb, ℤ, pos, negsuc}
+use Rattle.std.specs.Prelude.{ℕ, zero, suc, cond, List, [], ◌∷◌, ◌≡◌, ◌==◌, ℤ, pos, negsuc}
 use Rattle.readings.specs.Words.{word_reading, constant_reading}
 use Rattle.readings.specs.declared.settings.Divisor.TheVariants.{D10}
 use Rattle.readings.specs.declared.settings.Factor.TheVariants.{Third}
@@ -13,7 +13,7 @@ use Rattle.timing.specs.Remainders.{integrated, integrated_rest, delayed, delaye
 
 -- a table of zeros but for points 3 and 4
 abbrev pub points : ℕ → ℤ
-points k = cond (eqb k 3) (pos 4000) (cond (eqb k 4) (pos 5000) (pos 0))
+points k = cond (k == 3) (pos 4000) (cond (k == 4) (pos 5000) (pos 0))
 
 -- the allowances of RL9 at the phases 0 to 4
 abbrev pub allowances : List ℕ

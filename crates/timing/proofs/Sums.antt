@@ -1,15 +1,14 @@
 -- The law of a self-fed integrator.
-use Rattle.std.proofs.Common.{◌≡◌, ℕ, ◌*◌, true, false, cond, List, [], ◌∷◌, ℤ, pos, negsuc, ◌+ℤ◌, ◌*ℤ◌, ◌≤ℤ◌, ap, subst, add-mul, arith}
-use lib.Signed.{lt_z}
+use Rattle.std.proofs.Common.{◌≡◌, ℕ, ◌*◌, true, false, cond, List, [], ◌∷◌, ℤ, pos, negsuc, ◌+ℤ◌, ◌*ℤ◌, ◌≤ℤ◌, ap, add-mul, arith}
+use Rattle.std.specs.Prelude.{int_lt}
 use borrow.Author.Differences.{sum_is_lem}
 use Rattle.std.proofs.lemmas.Int.{ints}
 use Rattle.std.proofs.lemmas.Bool.{or_parts}
 use Rattle.readings.specs.Range.{limit}
-use Rattle.readings.specs.declared.settings.Divisor.TheVariants.{D10, D40, D100, D250, D1200, D4800, D12000, D30000}
-use Rattle.timing.specs.Divisors.{Below, cut, rest}
+use Rattle.timing.specs.Divisors.{Below, cut, divisor, rest}
 use Rattle.timing.specs.Remainders.{beyond, unlimited, integrated, integrated_rest}
 use Rattle.timing.specs.Sums.{Unlimited, Balance, SumLaw}
-use Rattle.timing.proofs.Laws.{cut-rest, rem_below, rem_is_rest, divisor_low}
+use Rattle.timing.proofs.Laws.{cut-rest, rest_within, divisor_low}
 
 distrib : (a b : ℤ) (k : ℕ) → (a +ℤ b) *ℤ pos k ≡ a *ℤ pos k +ℤ b *ℤ pos k
 distrib a b k =
@@ -19,7 +18,7 @@ distrib a b k =
 limit_within : (z : ℤ) → beyond z ≡ false → limit z ≡ z
 unfolding limit
 limit_within z h =
-    let p = or_parts (lt_z z (negsuc 31983)) (lt_z (pos 31984) z) h in
+    let p = or_parts (int_lt z (negsuc 31983)) (int_lt (pos 31984) z) h in
     grind (arith, ints)
 
 -- one cycle that is not limited
@@ -36,7 +35,7 @@ rest_below : (k : ℕ) (a b m : ℤ) → pos 1 ≤ℤ pos k → Below (pos k) (i
 rest_below k a b m p =
     elim (beyond (unlimited (pos k) a b m)) as (λ t. Below (pos k) (cond t (pos 0) (rest (a +ℤ m) (pos k)))) [
       | true ↦ omega (arith, ints)
-      | false ↦ subst (Below (pos k)) (rem_is_rest (a +ℤ m) (pos k) p) (rem_below (a +ℤ m) (pos k) p)
+      | false ↦ rest_within (a +ℤ m) (pos k) p
     ]
 
 sums : (k : ℕ) (xs : List ℤ) (b m : ℤ) → pos 1 ≤ℤ pos k → Below (pos k) m → Unlimited (pos k) xs b m → Balance (pos k) xs b m
@@ -47,11 +46,8 @@ sums k (a ∷ xs) b m p u h =
     record { sum = omega (arith, ints, i.sum); small = i.small }
 
 pub sum_law : SumLaw
-sum_law D10 xs b m = sums 10 xs b m (divisor_low D10)
-sum_law D40 xs b m = sums 40 xs b m (divisor_low D40)
-sum_law D100 xs b m = sums 100 xs b m (divisor_low D100)
-sum_law D250 xs b m = sums 250 xs b m (divisor_low D250)
-sum_law D1200 xs b m = sums 1200 xs b m (divisor_low D1200)
-sum_law D4800 xs b m = sums 4800 xs b m (divisor_low D4800)
-sum_law D12000 xs b m = sums 12000 xs b m (divisor_low D12000)
-sum_law D30000 xs b m = sums 30000 xs b m (divisor_low D30000)
+sum_law d xs b m = at (divisor d) (divisor_low d)
+  where
+    at : (z : ℤ) → pos 1 ≤ℤ z → Below z m → Unlimited z xs b m → Balance z xs b m
+    at (pos k) p = sums k xs b m p
+    at (negsuc k) p = absurd (omega (arith, ints))

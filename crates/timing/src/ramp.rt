@@ -10,20 +10,7 @@ fn period(rate: Rate) -> u32
     ensures value { result ≡ period_of rate }
     ensures positive { 0 < result }
 {
-    match rate {
-        Rate::T2 => 2,
-        Rate::T4 => 4,
-        Rate::T8 => 8,
-        Rate::T16 => 16,
-        Rate::T50 => 50,
-        Rate::T100 => 100,
-        Rate::T200 => 200,
-        Rate::T400 => 400,
-        Rate::T1000 => 1000,
-        Rate::T2000 => 2000,
-        Rate::T4000 => 4000,
-        Rate::T8000 => 8000,
-    }
+    rate as u32
 }
 
 // How far the rate limiter may move in a cycle of this phase.
@@ -43,13 +30,7 @@ fn toward(n: u32, a: Reading, b: Reading) -> Reading
 {
     let low = b.value() - n as i32;
     let high = b.value() + n as i32;
-    if a.value() < low {
-        Reading::nearest(low)
-    } else if a.value() > high {
-        Reading::nearest(high)
-    } else {
-        a
-    }
+    Reading::nearest(a.value().clamp(low, high))
 }
 
 // RL1 to RLC: b moved toward a by the allowance of the phase.

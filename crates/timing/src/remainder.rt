@@ -1,8 +1,9 @@
 // The remainder that an integrator or a delay keeps: a number nearer to 0 than its divisor.
 ghost use Rattle.std.specs.Option.{option_map};
-ghost use Rattle.timing.specs.Divisors.{Below, Small, cut as cut_of, divisor as divisor_of, remaining, rest as rest_z};
-ghost use Rattle.std.specs.Prelude.{◌≡◌, pos, ◌≤ℤ◌};
+ghost use Rattle.timing.specs.Divisors.{Below, Small, cut as cut_of, divisor as divisor_of, remaining, rest as rest_of};
+ghost use Rattle.std.specs.Prelude.{◌≡◌, pos, ◌+ℤ◌, ◌-ℤ◌, ◌≤ℤ◌};
 
+use readings::reading::Reading;
 use readings::settings::Divisor;
 
 #[derive(Clone, Copy, PartialEq, Eq, Debug)]
@@ -13,54 +14,15 @@ pub struct Remainder {
 }
 
 // The divisor as a number.
-pub(crate) fn number(divisor: Divisor) -> i32
+fn number(divisor: Divisor) -> i32
     ensures value { result ≡ divisor_of divisor }
     ensures low { pos 1 ≤ℤ result }
     ensures high { result ≤ℤ pos 30000 }
 {
-    match divisor {
-        Divisor::D10 => 10,
-        Divisor::D40 => 40,
-        Divisor::D100 => 100,
-        Divisor::D250 => 250,
-        Divisor::D1200 => 1200,
-        Divisor::D4800 => 4800,
-        Divisor::D12000 => 12000,
-        Divisor::D30000 => 30000,
-    }
-}
-
-// Cut toward zero.
-pub(crate) fn cut(n: i32, divisor: Divisor) -> i32
-    requires { Small n }
-    ensures value { result ≡ cut_of n (divisor_of divisor) }
-    ensures small { Small result }
-{
-    n / number(divisor)
-}
-
-// What is left when n is divided, with its sign.
-fn rest(n: i32, divisor: Divisor) -> i32
-    requires { Small n }
-    ensures value { result ≡ rest_z n (divisor_of divisor) }
-    ensures small { Below (divisor_of divisor) result }
-{
-    n % number(divisor)
+    divisor as i32
 }
 
 impl Remainder {
-    // What is left when n is divided.
-    pub(crate) fn of(n: i32, divisor: Divisor) -> Remainder
-        requires { Small n }
-        ensures value { result.value ≡ rest_z n (divisor_of divisor) }
-        ensures divisor { result.divisor ≡ divisor }
-    {
-        Remainder {
-            divisor,
-            value: rest(n, divisor) as i16,
-        }
-    }
-
     // A remainder exactly where the number is nearer to 0 than the divisor.
     pub fn new(divisor: Divisor, value: i32) -> Option<Remainder>
         ensures value { option_map (λ m. m.value) result ≡ remaining divisor value }
@@ -95,5 +57,56 @@ impl Remainder {
         ensures { result ≡ self.divisor }
     {
         self.divisor
+    }
+}
+
+// What an integrator or a delay divides, the remainder kept before included, and what by.
+#[derive(Clone, Copy)]
+pub(crate) struct Division {
+    pub(crate) dividend: i32,
+    pub(crate) divisor: Divisor,
+    ghost small: { Small dividend },
+}
+
+impl Division {
+    // An integrator's: its input.
+    pub(crate) fn of_input(a: Reading, m: Remainder) -> Division
+        ensures dividend { result.dividend ≡ a.value +ℤ m.value }
+        ensures divisor { result.divisor ≡ m.divisor }
+    {
+        Division {
+            dividend: a.value() + m.value(),
+            divisor: m.divisor,
+        }
+    }
+
+    // A delay's: its distance from the input.
+    pub(crate) fn of_distance(a: Reading, b: Reading, m: Remainder) -> Division
+        ensures dividend { result.dividend ≡ a.value -ℤ b.value +ℤ m.value }
+        ensures divisor { result.divisor ≡ m.divisor }
+    {
+        Division {
+            dividend: a.value() - b.value() + m.value(),
+            divisor: m.divisor,
+        }
+    }
+
+    // Cut toward zero.
+    pub(crate) fn quotient(self) -> i32
+        ensures value { result ≡ cut_of self.dividend (divisor_of self.divisor) }
+        ensures small { Small result }
+    {
+        self.dividend / number(self.divisor)
+    }
+
+    // What is left, with the dividend's sign.
+    pub(crate) fn remainder(self) -> Remainder
+        ensures value { result.value ≡ rest_of self.dividend (divisor_of self.divisor) }
+        ensures divisor { result.divisor ≡ self.divisor }
+    {
+        Remainder {
+            divisor: self.divisor,
+            value: (self.dividend % number(self.divisor)) as i16,
+        }
     }
 }

@@ -1,13 +1,12 @@
 // One cycle of an integrator or a delay.
-ghost use Rattle.timing.specs.Divisors.{Small, cut as cut_of, divisor as divisor_of, rest as rest_z};
+ghost use Rattle.timing.specs.Divisors.{cut as cut_of, divisor as divisor_of, rest as rest_of};
 ghost use Rattle.timing.specs.Ramps.{Between};
 ghost use Rattle.timing.specs.Remainders.{beyond as is_beyond, delayed, delayed_rest, integrated, integrated_rest};
 ghost use Rattle.timing.specs.Sums.{SumLaw};
 ghost use Rattle.std.specs.Prelude.{◌≡◌, pos, ◌+ℤ◌, ◌-ℤ◌, if◌then◌else◌};
 
-use crate::remainder::{Remainder, cut};
+use crate::remainder::{Division, Remainder};
 use readings::reading::Reading;
-use readings::settings::Divisor;
 
 // The reading that a line takes, and the remainder that it keeps.
 #[derive(Clone, Copy)]
@@ -16,47 +15,29 @@ pub struct Step {
     pub remainder: Remainder,
 }
 
-// The input of an integrator with its remainder.
-fn lifted(a: Reading, m: Remainder) -> i32
-    ensures value { result ≡ a.value +ℤ m.value }
-    ensures small { Small result }
+// b moved by what the division gives.
+fn moved(b: Reading, division: Division) -> i32
+    ensures { result ≡ b.value +ℤ cut_of division.dividend (divisor_of division.divisor) }
 {
-    a.value() + m.value()
-}
-
-// The distance of a delay from its input, with its remainder.
-fn distance(a: Reading, b: Reading, m: Remainder) -> i32
-    ensures value { result ≡ a.value -ℤ b.value +ℤ m.value }
-    ensures small { Small result }
-{
-    a.value() - b.value() + m.value()
-}
-
-// b moved by s / d.
-fn moved(b: Reading, s: i32, divisor: Divisor) -> i32
-    requires { Small s }
-    ensures { result ≡ b.value +ℤ cut_of s (divisor_of divisor) }
-{
-    b.value() + cut(s, divisor)
+    b.value() + division.quotient()
 }
 
 // Whether limiting changes the number.
 fn beyond(z: i32) -> bool
     ensures { result ≡ is_beyond z }
 {
-    z < -31984 || z > 31984
+    z < -Reading::LIMIT || z > Reading::LIMIT
 }
 
-// What an integrator keeps of s: nothing after a limited cycle.
-fn kept(sum: i32, s: i32, divisor: Divisor) -> Remainder
-    requires { Small s }
-    ensures value { result.value ≡ (if is_beyond sum then pos 0 else rest_z s (divisor_of divisor)) }
-    ensures divisor { result.divisor ≡ divisor }
+// What an integrator keeps of the division: nothing after a limited cycle.
+fn kept(sum: i32, division: Division) -> Remainder
+    ensures value { result.value ≡ (if is_beyond sum then pos 0 else rest_of division.dividend (divisor_of division.divisor)) }
+    ensures divisor { result.divisor ≡ division.divisor }
 {
     if beyond(sum) {
-        return Remainder::zero(divisor);
+        return Remainder::zero(division.divisor);
     }
-    Remainder::of(s, divisor)
+    division.remainder()
 }
 
 // IG1 to IG8: b and the input with the remainder, divided; after a limited cycle nothing is left over.
@@ -66,11 +47,11 @@ pub fn integrate(a: Reading, b: Reading, m: Remainder) -> Step
     ensures divisor { result.remainder.divisor ≡ m.divisor }
     ensures law { SumLaw }
 {
-    let s = lifted(a, m);
-    let sum = moved(b, s, m.divisor());
+    let division = Division::of_input(a, m);
+    let sum = moved(b, division);
     Step {
         reading: Reading::limited(sum),
-        remainder: kept(sum, s, m.divisor()),
+        remainder: kept(sum, division),
     }
 }
 
@@ -81,9 +62,9 @@ pub fn delay(a: Reading, b: Reading, m: Remainder) -> Step
     ensures divisor { result.remainder.divisor ≡ m.divisor }
     ensures between { Between a.value b.value result.reading.value }
 {
-    let s = distance(a, b, m);
+    let division = Division::of_distance(a, b, m);
     Step {
-        reading: Reading::nearest(moved(b, s, m.divisor())),
-        remainder: Remainder::of(s, m.divisor()),
+        reading: Reading::nearest(moved(b, division)),
+        remainder: division.remainder(),
     }
 }
