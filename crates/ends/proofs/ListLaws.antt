@@ -4,10 +4,16 @@ use Rattle.std.proofs.lemmas.Int.{ints}
 use Rattle.std.proofs.lemmas.Bool.{and_parts}
 use Rattle.readings.specs.Range.{InRange, are_readings, is_reading, readable}
 use Rattle.readings.specs.declared.reading.Reading.{Reading}
+use Rattle.std.specs.List.{list_all}
 use Rattle.std.specs.Option.{option_map}
 
 pub reading_from_test : (z : ℤ) → is_reading z ≡ true → InRange z
 reading_from_test z h = grind (arith, ints)
+
+-- the test of a list tests each number
+pub all_tests : (zs : List ℤ) → are_readings zs ≡ list_all is_reading zs
+all_tests [] = refl
+all_tests (z ∷ zs) = rw (all_tests zs)
 
 pub reading_at : (zs : List ℤ) (k : ℕ) → k < length zs → are_readings zs ≡ true → InRange (get_or zs k (pos 0))
 reading_at [] k h t = omega arith

@@ -1,5 +1,5 @@
 // What both ends keep and answer alike.
-ghost use Rattle.std.specs.Prelude.{◌≡◌, ◌+◌, ◌%◌, ◌<◌, is_ok, if◌then◌else◌};
+ghost use Rattle.std.specs.Prelude.{◌≡◌, ◌+◌, ◌%◌, ◌<◌, IfOk, is_ok, if◌then◌else◌};
 ghost use Rattle.ends.specs.Places.{place_rule};
 ghost use Rattle.terminals.specs.Meaning.{asked, no_outputs, values};
 ghost use Rattle.terminals.specs.Rules.{put_rule, put_told};
@@ -53,7 +53,11 @@ impl Panel {
     }
 
     // Keeps the signals as outputs, unless they or the link refuse.
-    pub(crate) fn put(&mut self, signals: Signals, link: Result<(), Fault>) -> Result<(), PutRefusal>
+    pub(crate) fn put(
+        &mut self,
+        signals: Signals,
+        link: Result<(), Fault>,
+    ) -> Result<(), PutRefusal>
         ensures answer { put_told result ≡ put_rule signals.digital link }
         ensures outputs { values self.new.outputs ≡ (if is_ok result then asked signals else values self.old.outputs) }
         ensures tally { self.new.tally ≡ self.old.tally }
@@ -67,7 +71,8 @@ impl Panel {
 
 // The place from 0 of the input with that number.
 pub(crate) fn place_of(number: u8) -> Result<usize, NoSuchInput>
-    ensures { result ≡ place_rule number }
+    ensures place { result ≡ place_rule number }
+    ensures below { IfOk result (λ p. p < 8) }
 {
     if number < 1 || number > 8 {
         return Err(NoSuchInput);
