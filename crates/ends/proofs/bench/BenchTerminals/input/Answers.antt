@@ -1,4 +1,4 @@
-use Rattle.std.proofs.Common.{◌-◌, ◌<◌, length, get_or, pos, sym, ◌∙◌, subst, arith, w32, SFits, rules}
+use Rattle.std.proofs.Common.{◌<◌, length, get_or, pos, sym, ◌∙◌, subst, arith, w32, SFits}
 use Rattle.std.proofs.lemmas.Int.{ints, to_z-of_z}
 use Rattle.std.proofs.lemmas.Bool.Decides.{nat_tests}
 use Rattle.readings.specs.Range.{InRange}
