@@ -31,6 +31,7 @@ pub trait Rule {
     // a fault from below comes first, one stage further up
     ghost raises: { (r : Self) (zs : List ℤ) (f : Fault) → link r zs (Err f) ≡ Err (raised f) };
 
+    // what it shows, and its link, stay in range
     ghost eight: { (r : Self) (zs : List ℤ) → length zs ≡ 8 → length (inputs r zs) ≡ 8 };
 
     ghost readings: { (r : Self) (zs : List ℤ) → are_readings zs ≡ true → are_readings (inputs r zs) ≡ true };
