@@ -1,48 +1,44 @@
 // Terminals that show the frames they are given.
 ghost use Rattle.std.specs.Prelude.{◌≡◌, ◌+◌, ◌%◌, ◌<◌, is_ok, if◌then◌else◌};
 ghost use Rattle.ends.specs.Benches.{IsFrame, bench_link, zero_frame};
-ghost use Rattle.terminals.specs.Meaning.{values, no_outputs};
+ghost use Rattle.terminals.specs.Meaning.{asked, no_outputs, values};
 ghost use Rattle.terminals.specs.Rules.{put_rule, put_told};
 ghost use Rattle.std.proofs.Common.{rules, arith};
 
 use crate::numbers::all_readings;
+use crate::panel::{Panel, place_of};
 use readings::reading::Reading;
 use terminals::faults::{Fault, NoSuchInput, PutRefusal};
 use terminals::frames::{Frame, FrameRefusal};
 use terminals::framing::Framed;
 use terminals::interface::Terminals;
-use terminals::outputs::Outputs;
+use terminals::outputs::{Outputs, Signals};
 
 #[derive(Drop)]
 pub struct Bench {
     shown: Frame,
     next: Frame,
-    outputs: Outputs,
-    tally: u8,
+    panel: Panel,
     ghost shown_lawful: { IsFrame shown },
     ghost next_lawful: { IsFrame next },
-    ghost tally_lawful: { tally < 256 },
 }
 
 impl Bench {
     pub fn new() -> Bench
-        ensures { (result.shown ≡ zero_frame) × ((result.next ≡ zero_frame) × ((values result.outputs ≡ no_outputs) × (result.tally ≡ 0))) }
+        ensures shown { result.shown ≡ zero_frame }
+        ensures next { result.next ≡ zero_frame }
+        ensures outputs { values result.panel.outputs ≡ no_outputs }
+        ensures tally { result.panel.tally ≡ 0 }
     {
         let zero = Frame {
             inputs: [0; 8],
             bits: 0,
             cause: 0,
         };
-        let outputs = Outputs {
-            first: Reading::nearest(0),
-            second: Reading::nearest(0),
-            digital: 0,
-        };
         Bench {
             shown: zero,
             next: zero,
-            outputs,
-            tally: 0,
+            panel: Panel::new(),
         }
     }
 }
@@ -52,30 +48,28 @@ impl Terminals for Bench {
 
     ghost bits = { λ b. b.shown.bits };
 
-    ghost outputs = { λ b. values b.outputs };
+    ghost outputs = { λ b. values b.panel.outputs };
 
-    ghost tally = { λ b. b.tally };
+    ghost tally = { λ b. b.panel.tally };
 
     ghost link = { λ b. bench_link b.shown.cause };
 
     ghost ranges = { first_of (Prim.search rules, Prim.grind (arith, Self.row.coded.inj)) };
 
     fn sample(&mut self)
-        ensures outputs { values self.new.outputs ≡ values self.old.outputs }
-        ensures tally { self.new.tally ≡ (self.old.tally + 1) % 256 }
+        ensures outputs { values self.new.panel.outputs ≡ values self.old.panel.outputs }
+        ensures tally { self.new.panel.tally ≡ (self.old.panel.tally + 1) % 256 }
         ensures shown { self.new.shown ≡ self.old.next }
         ensures next { self.new.next ≡ self.old.next }
     {
         let next = self.next;
         self.shown = next;
-        self.tally = self.tally.wrapping_add(1);
+        self.panel.count();
     }
 
     fn input(&self, number: u8) -> Result<Reading, NoSuchInput> {
-        if number < 1 || number > 8 {
-            return Err(NoSuchInput);
-        }
-        Ok(Reading::nearest(self.shown.inputs[number as usize - 1]))
+        let place = place_of(number)?;
+        Ok(Reading::nearest(self.shown.inputs[place]))
     }
 
     fn bits(&self) -> u16 {
@@ -83,11 +77,11 @@ impl Terminals for Bench {
     }
 
     fn outputs(&self) -> Outputs {
-        self.outputs
+        self.panel.outputs()
     }
 
     fn tally(&self) -> u8 {
-        self.tally
+        self.panel.tally()
     }
 
     fn link(&self) -> Result<(), Fault> {
@@ -96,30 +90,22 @@ impl Terminals for Bench {
         }
         Err(Fault {
             cause: self.shown.cause as u8,
-            input: 0,
+            input: None,
             distance: 0,
         })
     }
 
-    fn put(&mut self, first: Reading, second: Reading, digital: u16) -> Result<(), PutRefusal>
-        ensures answer { put_told result ≡ put_rule digital (bench_link self.old.shown.cause) }
-        ensures outputs { values self.new.outputs ≡ (if is_ok result then (record { first = first.value; second = second.value; digital = digital }) else values self.old.outputs) }
+    fn put(&mut self, signals: Signals) -> Result<(), PutRefusal>
+        ensures answer { put_told result ≡ put_rule signals.digital (bench_link self.old.shown.cause) }
+        ensures outputs { values self.new.panel.outputs ≡ (if is_ok result then asked signals else values self.old.panel.outputs) }
         ensures inputs { self.new.shown.inputs ≡ self.old.shown.inputs }
         ensures bits { self.new.shown.bits ≡ self.old.shown.bits }
-        ensures tally { self.new.tally ≡ self.old.tally }
+        ensures tally { self.new.panel.tally ≡ self.old.panel.tally }
         ensures link { bench_link self.new.shown.cause ≡ bench_link self.old.shown.cause }
         ensures next { self.new.next ≡ self.old.next }
     {
-        if digital >= 8192 {
-            return Err(PutRefusal::DigitalOver);
-        }
-        self.link()?;
-        self.outputs = Outputs {
-            first,
-            second,
-            digital,
-        };
-        Ok(())
+        let link = self.link();
+        self.panel.put(signals, link)
     }
 }
 

@@ -3,4 +3,5 @@
 
 pub mod bench;
 mod numbers;
+mod panel;
 pub mod plant;

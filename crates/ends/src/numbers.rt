@@ -15,10 +15,5 @@ fn is_reading(value: i32) -> bool
 pub(crate) fn all_readings(values: &[i32; 8]) -> bool
     ensures { result ≡ are_readings values.now }
 {
-    for x in values {
-        if !is_reading(*x) {
-            return false;
-        }
-    }
-    true
+    values.iter().all(|x| is_reading(*x))
 }

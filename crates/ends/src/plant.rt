@@ -5,39 +5,35 @@ ghost use Rattle.readings.specs.Range.{InRange};
 ghost use Rattle.terminals.specs.Meaning.{values, no_outputs};
 ghost use Rattle.std.proofs.Common.{rules, arith};
 
+use crate::panel::{Panel, place_of};
 use readings::reading::Reading;
 use terminals::faults::{Fault, NoSuchInput, PutRefusal};
 use terminals::interface::Terminals;
-use terminals::outputs::Outputs;
+use terminals::outputs::{Outputs, Signals};
 
 #[derive(Drop)]
 pub struct Plant {
     level: Reading,
-    outputs: Outputs,
-    tally: u8,
-    ghost tally_lawful: { tally < 256 },
+    panel: Panel,
 }
 
 impl Plant {
     pub fn new() -> Plant
-        ensures { (result.level.value ≡ pos 0) × ((values result.outputs ≡ no_outputs) × (result.tally ≡ 0)) }
+        ensures level { result.level.value ≡ pos 0 }
+        ensures outputs { values result.panel.outputs ≡ no_outputs }
+        ensures tally { result.panel.tally ≡ 0 }
     {
-        let outputs = Outputs {
-            first: Reading::nearest(0),
-            second: Reading::nearest(0),
-            digital: 0,
-        };
         Plant {
             level: Reading::nearest(0),
-            outputs,
-            tally: 0,
+            panel: Panel::new(),
         }
     }
 }
 
 // One sixteenth of the way, cut toward zero.
 fn sixteenth(from: i32, to: i32) -> i32
-    requires { (InRange from) × (InRange to) }
+    requires from_range { InRange from }
+    requires to_range { InRange to }
     ensures value { result ≡ moved from to }
     ensures range { InRange result }
 {
@@ -55,32 +51,28 @@ impl Terminals for Plant {
 
     ghost bits = { λ _. 0 };
 
-    ghost outputs = { λ p. values p.outputs };
+    ghost outputs = { λ p. values p.panel.outputs };
 
-    ghost tally = { λ p. p.tally };
+    ghost tally = { λ p. p.panel.tally };
 
     ghost link = { λ _. Ok tt };
 
     ghost ranges = { first_of (Prim.search rules, Prim.grind (arith, Self.row.coded.inj)) };
 
     fn sample(&mut self)
-        ensures outputs { values self.new.outputs ≡ values self.old.outputs }
-        ensures tally { self.new.tally ≡ (self.old.tally + 1) % 256 }
-        ensures level { self.new.level.value ≡ moved self.old.level.value self.old.outputs.first.value }
+        ensures outputs { values self.new.panel.outputs ≡ values self.old.panel.outputs }
+        ensures tally { self.new.panel.tally ≡ (self.old.panel.tally + 1) % 256 }
+        ensures level { self.new.level.value ≡ moved self.old.level.value self.old.panel.outputs.first.value }
     {
-        let level = approach(self.level, self.outputs.first);
-        self.level = level;
-        self.tally = self.tally.wrapping_add(1);
+        self.level = approach(self.level, self.panel.outputs().first);
+        self.panel.count();
     }
 
     fn input(&self, number: u8) -> Result<Reading, NoSuchInput> {
-        if number < 1 || number > 8 {
-            return Err(NoSuchInput);
-        }
-        if number == 1 {
-            return Ok(self.level);
-        }
-        Ok(Reading::nearest(0))
+        Ok(match place_of(number)? {
+            0 => self.level,
+            _ => Reading::nearest(0),
+        })
     }
 
     fn bits(&self) -> u16 {
@@ -88,26 +80,18 @@ impl Terminals for Plant {
     }
 
     fn outputs(&self) -> Outputs {
-        self.outputs
+        self.panel.outputs()
     }
 
     fn tally(&self) -> u8 {
-        self.tally
+        self.panel.tally()
     }
 
     fn link(&self) -> Result<(), Fault> {
         Ok(())
     }
 
-    fn put(&mut self, first: Reading, second: Reading, digital: u16) -> Result<(), PutRefusal> {
-        if digital >= 8192 {
-            return Err(PutRefusal::DigitalOver);
-        }
-        self.outputs = Outputs {
-            first,
-            second,
-            digital,
-        };
-        Ok(())
+    fn put(&mut self, signals: Signals) -> Result<(), PutRefusal> {
+        self.panel.put(signals, Ok(()))
     }
 }

@@ -1,5 +1,5 @@
 -- What the stages' definitions keep.
-use Rattle.std.specs.Prelude.{◌≡◌, ℕ, zero, suc, ◌+◌, ◌-◌, ◌≤◌, Bool, true, false, cond, List, [], ◌∷◌, length, ℤ, pos, Ok, Err, ◌==◌, slice_index_or, refl}
+use Rattle.std.specs.Prelude.{◌≡◌, ℕ, zero, suc, ◌+◌, ◌-◌, ◌≤◌, Bool, true, false, cond, ◌&&◌, List, [], ◌∷◌, length, ℤ, pos, negsuc, Some, None, Option, Ok, Err, int_lt, slice_index_or, refl}
 use Rattle.std.proofs.Common.{ap, ◌∙◌, arith, add-zero}
 use Rattle.std.proofs.lemmas.Bool.{and_parts, and_from}
 use Rattle.std.proofs.lemmas.Bool.Decides.{nat_tests}
@@ -39,15 +39,28 @@ pub passed_sound : (l : Link) → IsLink l → IsLink (passed_link l)
 passed_sound (Ok u) h = tt
 passed_sound (Err f) h = record { cause_low = h.cause_low; cause_high = h.cause_high; input = h.input; distance = omega arith }
 
-pub lowest_low_within : (m k : ℕ) (zs : List ℤ) → lowest_low m k zs ≤ k + length zs
-lowest_low_within m k [] = omega arith
-lowest_low_within m k (z ∷ zs) = let h = lowest_low_within m (k + 1) zs in grind (arith, nat_tests)
+-- an input, where one is named, is numbered up to high
+abbrev pub UpTo : ℕ → Option ℕ → Type 0
+UpTo high None = Unit {0}
+UpTo high (Some n) = (1 ≤ n) × (n ≤ high)
 
-own_sound : (n : ℕ) → n ≤ 8 → IsLink (own_link n)
-own_sound n h = by_cases (n == 0) (λ b. IsLink (cond b (Ok tt) (Err (record { cause = 100; input = n; distance = 0 })))) tt (record { cause_low = omega arith; cause_high = omega arith; input = h; distance = omega arith })
+raise_bound : (low high : ℕ) → low ≤ high → (r : Option ℕ) → UpTo low r → UpTo high r
+raise_bound low high h None u = tt
+raise_bound low high h (Some n) u = (u.0, omega (arith, u.1))
+
+pub lowest_low_within : (m k : ℕ) (zs : List ℤ) → UpTo (k + length zs) (lowest_low m k zs)
+lowest_low_within m k [] = tt
+lowest_low_within m k (z ∷ zs) =
+    let P = λ (b : Bool). UpTo (k + suc (length zs)) (cond b (Some (k + 1)) (lowest_low m (k + 1) zs)) in
+    let rest = raise_bound ((k + 1) + length zs) (k + suc (length zs)) (omega arith) (lowest_low m (k + 1) zs) (lowest_low_within m (k + 1) zs) in
+    by_cases (chosen_at m k && int_lt z (negsuc 1599)) P (omega arith, omega arith) rest
+
+own_sound : (high : ℕ) → high ≤ 8 → (r : Option ℕ) → UpTo high r → IsLink (own_link r)
+own_sound high h None u = tt
+own_sound high h (Some n) u = record { cause_low = omega arith; cause_high = omega arith; input = (u.0, omega (arith, u.1)); distance = omega arith }
 
 pub watched_sound : (m : ℕ) (zs : List ℤ) (l : Link) → length zs ≡ 8 → IsLink l → IsLink (watched_link m zs l)
-watched_sound m zs (Ok u) e h = let w = lowest_low_within m 0 zs in own_sound (lowest_low m 0 zs) (omega arith)
+watched_sound m zs (Ok u) e h = own_sound (0 + length zs) (omega arith) (lowest_low m 0 zs) (lowest_low_within m 0 zs)
 watched_sound m zs (Err f) e h = passed_sound (Err f) h
 
 -- the floor's input from the one below

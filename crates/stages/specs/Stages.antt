@@ -1,8 +1,7 @@
 -- What the stages change.
-use Rattle.std.specs.Prelude.{ℕ, ◌+◌, ◌/◌, ◌%◌, ◌^◌, min, Bool, cond, ◌&&◌, List, [], ◌∷◌, ℤ, pos, negsuc, Ok, Err, Result, ◌==◌, int_lt}
+use Rattle.std.specs.Prelude.{ℕ, ◌+◌, ◌/◌, ◌%◌, ◌^◌, min, Bool, cond, ◌&&◌, List, [], ◌∷◌, ℤ, pos, negsuc, Some, None, Option, Ok, Err, ◌==◌, int_lt}
 use Rattle.terminals.specs.Meaning.{Link}
 use Rattle.terminals.specs.declared.faults.Fault.{Fault}
-use Rattle.stages.specs.declared.faults.StageFault.{StageFault}
 
 -- whether the byte m chooses the input at place k, from 0
 abbrev pub chosen_at : ℕ → ℕ → Bool
@@ -17,11 +16,6 @@ abbrev pub passed_link : Link → Link
 passed_link (Ok u) = Ok u
 passed_link (Err f) = Err (raised f)
 
--- a stage's fault as a link
-abbrev pub stage_told : Result (Unit {0}) StageFault → Link
-stage_told (Ok u) = Ok u
-stage_told (Err f) = Err f.0
-
 -- floor: a chosen input below 0 is shown as 0
 abbrev pub floored_one : Bool → ℤ → ℤ
 floored_one b z = cond (b && int_lt z (pos 0)) (pos 0) z
@@ -31,14 +25,15 @@ abbrev pub floored : ℕ → ℕ → List ℤ → List ℤ
 floored m k [] = []
 floored m k (z ∷ zs) = floored_one (chosen_at m k) z ∷ floored m (k + 1) zs
 
--- watch: the lowest-numbered chosen input under -1600, or 0. The list begins at place k
-abbrev pub lowest_low : ℕ → ℕ → List ℤ → ℕ
-lowest_low m k [] = 0
-lowest_low m k (z ∷ zs) = cond (chosen_at m k && int_lt z (negsuc 1599)) (k + 1) (lowest_low m (k + 1) zs)
+-- watch: the lowest-numbered chosen input under -1600, if there is one. The list begins at place k
+abbrev pub lowest_low : ℕ → ℕ → List ℤ → Option ℕ
+lowest_low m k [] = None
+lowest_low m k (z ∷ zs) = cond (chosen_at m k && int_lt z (negsuc 1599)) (Some (k + 1)) (lowest_low m (k + 1) zs)
 
 -- a watch's own fault, if it found an input
-abbrev pub own_link : ℕ → Link
-own_link n = cond (n == 0) (Ok tt) (Err (record { cause = 100; input = n; distance = 0 }))
+abbrev pub own_link : Option ℕ → Link
+own_link None = Ok tt
+own_link (Some n) = Err (record { cause = 100; input = Some n; distance = 0 })
 
 -- a fault from below comes first
 abbrev pub watched_link : ℕ → List ℤ → Link → Link

@@ -2,22 +2,29 @@
 ghost use Rattle.std.specs.Prelude.{◌≡◌, ◌-◌, ◌≤◌};
 ghost use Rattle.stages.specs.Stages.{chosen_at, lowest_low};
 
-// Whether the byte chooses the input of that number.
-pub(crate) fn is_chosen(chosen: u8, number: u8) -> bool
-    requires { (1 ≤ number) × (number ≤ 8) }
-    ensures { result ≡ chosen_at chosen (number - 1) }
-{
-    (chosen >> (number - 1)) % 2 == 1
-}
+#[derive(Clone, Copy)]
+pub(crate) struct Choice(pub(crate) u8);
 
-// The lowest number of a chosen input under -1600, or 0 where there is none.
-pub(crate) fn lowest_low(chosen: u8, values: &[i16; 8]) -> u8
-    ensures { result ≡ lowest_low chosen 0 values.now }
-{
-    for i in 0..8 {
-        if is_chosen(chosen, i + 1) && values[i as usize] < -1600 {
-            return i + 1;
-        }
+impl Choice {
+    // Whether it has the input of that number.
+    pub(crate) fn has(self, number: u8) -> bool
+        requires low { 1 ≤ number }
+        requires high { number ≤ 8 }
+        ensures { result ≡ chosen_at self.0 (number - 1) }
+    {
+        (self.0 >> (number - 1)) % 2 == 1
     }
-    0
+
+    // The lowest number of a chosen input under -1600.
+    pub(crate) fn lowest_low(self, values: &[i16; 8]) -> Option<u8>
+        ensures { result ≡ lowest_low self.0 0 values.now }
+    {
+        for (place, value) in values.iter().enumerate() {
+            let number = place as u8 + 1;
+            if self.has(number) && *value < -1600 {
+                return Some(number);
+            }
+        }
+        None
+    }
 }

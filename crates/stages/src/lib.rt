@@ -3,5 +3,6 @@
 
 mod choice;
 pub mod faults;
+pub mod rules;
 pub mod stacks;
 pub mod stages;

@@ -13,21 +13,21 @@ use terminals::interface::Terminals;
 
 // The watch sees the bench's own inputs, and its fault climbs one stage.
 pub fn floor_over_watch(floor: &Floor<Watch<Bench>>) -> Result<(), Fault>
-    ensures { result ≡ passed_link (watched_link floor.now.below.chosen floor.now.below.below.shown.inputs (bench_link floor.now.below.below.shown.cause)) }
+    ensures { result ≡ passed_link (watched_link floor.now.below.rule.chosen.0 floor.now.below.below.shown.inputs (bench_link floor.now.below.below.shown.cause)) }
 {
     floor.link()
 }
 
 // The watch sees the floored inputs, and its fault has climbed no stage.
 pub fn watch_over_floor(watch: &Watch<Floor<Bench>>) -> Result<(), Fault>
-    ensures { result ≡ watched_link watch.now.chosen (floored watch.now.below.chosen 0 watch.now.below.below.shown.inputs) (passed_link (bench_link watch.now.below.below.shown.cause)) }
+    ensures { result ≡ watched_link watch.now.rule.chosen.0 (floored watch.now.below.rule.chosen.0 0 watch.now.below.below.shown.inputs) (passed_link (bench_link watch.now.below.below.shown.cause)) }
 {
     watch.link()
 }
 
 // The lower watch's fault comes first.
 pub fn watch_over_watch(watches: &Watch<Watch<Plant>>) -> Result<(), Fault>
-    ensures { result ≡ watched_link watches.now.chosen (plant_inputs watches.now.below.below.level.value) (watched_link watches.now.below.chosen (plant_inputs watches.now.below.below.level.value) (Ok tt)) }
+    ensures { result ≡ watched_link watches.now.rule.chosen.0 (plant_inputs watches.now.below.below.level.value) (watched_link watches.now.below.rule.chosen.0 (plant_inputs watches.now.below.below.level.value) (Ok tt)) }
 {
     watches.link()
 }

@@ -1,8 +1,9 @@
 -- What terminals mean: eight input readings, nine input bits, the outputs, a tally and a link.
-use Rattle.std.specs.Prelude.{◌≡◌, ℕ, ◌<◌, ◌≤◌, true, List, length, ℤ, pos, Ok, Err, Result}
+use Rattle.std.specs.Prelude.{◌≡◌, ℕ, ◌<◌, ◌≤◌, true, List, length, ℤ, pos, Some, None, Option, Ok, Err, Result}
 use Rattle.readings.specs.Range.{InRange, are_readings}
 use Rattle.terminals.specs.declared.faults.Fault.{Fault}
 use Rattle.terminals.specs.declared.outputs.Outputs.{Outputs}
+use Rattle.terminals.specs.declared.outputs.Signals.{Signals}
 
 -- up, or down with a fault
 abbrev pub Link : Type 0
@@ -18,11 +19,20 @@ pub record OutputValues : Type 0 where
 abbrev pub values : Outputs → OutputValues
 values o = record { first = o.first.value; second = o.second.value; digital = o.digital }
 
+-- what signals ask for, as numbers
+abbrev pub asked : Signals → OutputValues
+asked s = record { first = s.first.value; second = s.second.value; digital = s.digital }
+
+-- an input is named by its number, from 1 to 8
+abbrev pub IsNamed : Option ℕ → Type 0
+IsNamed None = Unit {0}
+IsNamed (Some n) = (1 ≤ n) × (n ≤ 8)
+
 -- a fault is in range
 pub record IsFault (f : Fault) : Type 0 where
   pub cause_low : 1 ≤ f.cause
   pub cause_high : f.cause < 256
-  pub input : f.input ≤ 8
+  pub input : IsNamed f.input
   pub distance : f.distance < 256
 
 -- a link is up, or its fault is in range

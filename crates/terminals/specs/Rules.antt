@@ -1,10 +1,12 @@
 -- What the calls on terminals answer. A refusal has a number, and at 44 the fault.
 use Rattle.std.specs.Prelude.{ℕ, ◌-◌, cond, ◌&&◌, List, ℤ, pos, Some, None, Ok, Err, Option, Result, nat_le, nat_lt, slice_index_or}
-use Rattle.terminals.specs.Meaning.{Link}
+use Rattle.terminals.specs.Meaning.{Link, OutputValues, asked, values}
 use Rattle.terminals.specs.declared.faults.Fault.{Fault}
 use Rattle.terminals.specs.declared.faults.NoSuchInput.{NoSuchInput}
 use Rattle.terminals.specs.declared.faults.PutRefusal.{PutRefusal}
 use Rattle.terminals.specs.declared.faults.PutRefusal.TheVariants.{DigitalOver, LinkDown}
+use Rattle.terminals.specs.declared.outputs.Outputs.{Outputs}
+use Rattle.terminals.specs.declared.outputs.Signals.{Signals}
 use Rattle.readings.specs.declared.reading.Reading.{Reading}
 
 -- what a refusal tells
@@ -33,6 +35,15 @@ input_rule n xs = cond (nat_le 1 n && nat_le n 8) (Ok (slice_index_or xs (n - 1)
 abbrev pub refusal_told : PutRefusal → Refused
 refusal_told DigitalOver = plain 55
 refusal_told (LinkDown f) = with_fault 44 f
+
+-- the outputs that signals make, a refusal by its number and fault
+abbrev pub outputs_told : Result Outputs PutRefusal → Result OutputValues Refused
+outputs_told (Ok o) = Ok (values o)
+outputs_told (Err e) = Err (refusal_told e)
+
+-- thirteen output bits are below 8192
+abbrev pub outputs_rule : Signals → Result OutputValues Refused
+outputs_rule s = cond (nat_lt s.digital 8192) (Ok (asked s)) (Err (plain 55))
 
 -- the answer of a put
 abbrev pub put_told : Result (Unit {0}) PutRefusal → Result (Unit {0}) Refused

@@ -1,11 +1,12 @@
 // One exchange with the terminals, for every kind of them.
 ghost use Rattle.std.specs.Prelude.{◌≡◌, ◌+◌, ◌%◌, is_ok, if◌then◌else◌};
 ghost use Rattle.terminals.specs.Exchanges.{exchange_rule, exchange_told, take_rule};
+ghost use Rattle.terminals.specs.Meaning.{asked};
 
 use crate::faults::{Fault, PutRefusal};
 use crate::interface::Terminals;
+use crate::outputs::Signals;
 use crate::scan::read_inputs;
-use readings::reading::Reading;
 
 // What a sample brought.
 #[derive(Clone, Copy)]
@@ -28,17 +29,12 @@ pub fn take<T: Terminals>(t: &mut T) -> Result<Sampled, Fault>
 }
 
 // Takes what a sample brings, and puts the outputs.
-pub fn exchange<T: Terminals>(
-    t: &mut T,
-    first: Reading,
-    second: Reading,
-    digital: u16,
-) -> Result<Sampled, PutRefusal>
-    ensures answer { exchange_told result ≡ exchange_rule digital (T.Terminals.link t.new) (T.Terminals.inputs t.new) (T.Terminals.bits t.new) }
-    ensures outputs { T.Terminals.outputs t.new ≡ (if is_ok result then (record { first = first.value; second = second.value; digital = digital }) else T.Terminals.outputs t.old) }
+pub fn exchange<T: Terminals>(t: &mut T, signals: Signals) -> Result<Sampled, PutRefusal>
+    ensures answer { exchange_told result ≡ exchange_rule signals.digital (T.Terminals.link t.new) (T.Terminals.inputs t.new) (T.Terminals.bits t.new) }
+    ensures outputs { T.Terminals.outputs t.new ≡ (if is_ok result then asked signals else T.Terminals.outputs t.old) }
     ensures tally { T.Terminals.tally t.new ≡ (T.Terminals.tally t.old + 1) % 256 }
 {
     let sampled = take(t)?;
-    t.put(first, second, digital)?;
+    t.put(signals)?;
     Ok(sampled)
 }

@@ -2,11 +2,11 @@
 ghost use Rattle.terminals.specs.declared.faults.PutRefusal.TheVariants.{LinkDown};
 ghost use Rattle.std.specs.Prelude.{◌≡◌};
 
-// A fault: its cause from 1, the input that it names or 0, and how many stages it has passed.
+// A fault: its cause from 1, the input that it names if it names one, and how many stages it has passed.
 #[derive(Clone, Copy, PartialEq, Eq, Debug)]
 pub struct Fault {
     pub cause: u8,
-    pub input: u8,
+    pub input: Option<u8>,
     pub distance: u8,
 }
 

@@ -1,10 +1,10 @@
 // What every kind of terminals does.
 ghost use Rattle.std.specs.Prelude.{◌≡◌, ℕ, ◌+◌, ◌%◌, List, ℤ, is_ok, if◌then◌else◌};
-ghost use Rattle.terminals.specs.Meaning.{Link, OutputValues, values, Lawful};
+ghost use Rattle.terminals.specs.Meaning.{Lawful, Link, OutputValues, asked, values};
 ghost use Rattle.terminals.specs.Rules.{input_told, input_rule, put_told, put_rule};
 
 use crate::faults::{Fault, NoSuchInput, PutRefusal};
-use crate::outputs::Outputs;
+use crate::outputs::{Outputs, Signals};
 use readings::reading::Reading;
 
 pub trait Terminals {
@@ -43,9 +43,9 @@ pub trait Terminals {
     fn link(&self) -> Result<(), Fault>
         ensures { result ≡ link self.now };
 
-    fn put(&mut self, first: Reading, second: Reading, digital: u16) -> Result<(), PutRefusal>
-        ensures answer { put_told result ≡ put_rule digital (link self.old) }
-        ensures outputs { outputs self.new ≡ (if is_ok result then (record { first = first.value; second = second.value; digital = digital }) else outputs self.old) }
+    fn put(&mut self, signals: Signals) -> Result<(), PutRefusal>
+        ensures answer { put_told result ≡ put_rule signals.digital (link self.old) }
+        ensures outputs { outputs self.new ≡ (if is_ok result then asked signals else outputs self.old) }
         ensures inputs { inputs self.new ≡ inputs self.old }
         ensures bits { bits self.new ≡ bits self.old }
         ensures tally { tally self.new ≡ tally self.old }

@@ -8,12 +8,21 @@ use terminals::faults::{Fault, PutRefusal};
 use terminals::frames::{Frame, FrameRefusal};
 use terminals::framing::Framed;
 use terminals::interface::Terminals;
+use terminals::outputs::Signals;
 
 fn frame(input: i32, bits: u32, cause: u32) -> Frame {
     Frame {
         inputs: [0, 0, 0, 0, 0, 0, 0, input],
         bits,
         cause,
+    }
+}
+
+fn signals(first: i32, second: i32, digital: u16) -> Signals {
+    Signals {
+        first: Reading::nearest(first),
+        second: Reading::nearest(second),
+        digital,
     }
 }
 
@@ -48,16 +57,18 @@ fn a_bench_shows_its_last_frame(rt: HostRuntime) -> Result<(), Fail> {
     assert_eq!(rt; bench.bits(), 3);
     let down = Fault {
         cause: 42,
-        input: 0,
+        input: None,
         distance: 0,
     };
     assert_eq!(rt; bench.link(), Err(down));
     assert!(rt; bench.input(0).is_err());
     assert!(rt; bench.input(9).is_err());
-    let zero = Reading::nearest(0);
-    assert_eq!(rt; bench.put(zero, zero, 8192), Err(PutRefusal::DigitalOver));
     assert_eq!(rt;
-        bench.put(zero, zero, 8191),
+        bench.put(signals(0, 0, 8192)),
+        Err(PutRefusal::DigitalOver)
+    );
+    assert_eq!(rt;
+        bench.put(signals(0, 0, 8191)),
         Err(PutRefusal::LinkDown(down))
     );
     Ok(())
@@ -66,7 +77,7 @@ fn a_bench_shows_its_last_frame(rt: HostRuntime) -> Result<(), Fail> {
 #[test]
 fn a_put_stays_and_the_tally_goes_round(rt: HostRuntime) -> Result<(), Fail> {
     let mut bench = Bench::new();
-    bench.put(Reading::nearest(-32767), Reading::nearest(32767), 8191)?;
+    bench.put(signals(-32767, 32767, 8191))?;
     for _ in 0..255 {
         bench.sample();
     }
@@ -91,10 +102,10 @@ fn a_plant_follows_its_output(rt: HostRuntime) -> Result<(), Fail> {
         (32767, 2047, 3967),
     ] {
         let mut plant = Plant::new();
-        plant.put(Reading::nearest(output), Reading::nearest(1), 0)?;
+        plant.put(signals(output, 1, 0))?;
         plant.sample();
         assert_eq!(rt; plant.input(1)?.value(), first);
-        let seen = exchange(&mut plant, Reading::nearest(output), Reading::nearest(1), 0)?;
+        let seen = exchange(&mut plant, signals(output, 1, 0))?;
         assert_eq!(rt; seen.inputs[0] as i32, second);
         assert_eq!(rt; seen.inputs[1], 0);
         assert_eq!(rt; plant.tally(), 2);

@@ -10,6 +10,7 @@ use terminals::faults::{Fault, PutRefusal};
 use terminals::frames::Frame;
 use terminals::framing::Framed;
 use terminals::interface::Terminals;
+use terminals::outputs::Signals;
 
 fn frame(second: i32, cause: u32) -> Frame {
     Frame {
@@ -19,7 +20,15 @@ fn frame(second: i32, cause: u32) -> Frame {
     }
 }
 
-fn fault(cause: u8, input: u8, distance: u8) -> Result<(), Fault> {
+fn signals(first: i32, digital: u16) -> Signals {
+    Signals {
+        first: Reading::nearest(first),
+        second: Reading::nearest(0),
+        digital,
+    }
+}
+
+fn fault(cause: u8, input: Option<u8>, distance: u8) -> Result<(), Fault> {
     Err(Fault {
         cause,
         input,
@@ -31,29 +40,28 @@ fn fault(cause: u8, input: u8, distance: u8) -> Result<(), Fault> {
 #[test]
 fn a_floor_over_a_watch(rt: HostRuntime) -> Result<(), Fail> {
     let mut stack = Floor::new(Watch::new(Bench::new(), 0b011), 0b001);
-    let zero = Reading::nearest(0);
     stack.frame(frame(-1600, 0))?;
-    let seen = exchange(&mut stack, Reading::nearest(800), zero, 8191)?;
+    let seen = exchange(&mut stack, signals(800, 8191))?;
     assert_eq!(rt;
         (seen.inputs[0], seen.inputs[1], seen.inputs[2]),
         (0, -1600, -2000)
     );
     stack.frame(frame(-1601, 0))?;
     stack.sample();
-    assert_eq!(rt; floor_over_watch(&stack), fault(100, 2, 1));
+    assert_eq!(rt; floor_over_watch(&stack), fault(100, Some(2), 1));
     let down = Fault {
         cause: 100,
-        input: 2,
+        input: Some(2),
         distance: 1,
     };
     assert_eq!(rt;
-        stack.put(zero, zero, 8191),
+        stack.put(signals(0, 8191)),
         Err(PutRefusal::LinkDown(down))
     );
-    assert_eq!(rt; stack.put(zero, zero, 8192), Err(PutRefusal::DigitalOver));
+    assert_eq!(rt; stack.put(signals(0, 8192)), Err(PutRefusal::DigitalOver));
     stack.frame(frame(-1601, 99))?;
     assert!(rt; take(&mut stack).is_err());
-    assert_eq!(rt; stack.link(), fault(99, 0, 2));
+    assert_eq!(rt; stack.link(), fault(99, None, 2));
     assert_eq!(rt; stack.outputs().first.value(), 800);
     assert_eq!(rt; stack.tally(), 3);
     Ok(())
@@ -65,10 +73,10 @@ fn a_watch_over_a_floor(rt: HostRuntime) -> Result<(), Fail> {
     let mut stack = Watch::new(Floor::new(Bench::new(), 0b010), 0b110);
     stack.frame(frame(-32767, 0))?;
     stack.sample();
-    assert_eq!(rt; watch_over_floor(&stack), fault(100, 3, 0));
+    assert_eq!(rt; watch_over_floor(&stack), fault(100, Some(3), 0));
     stack.frame(frame(-32767, 7))?;
     stack.sample();
-    assert_eq!(rt; watch_over_floor(&stack), fault(7, 0, 2));
+    assert_eq!(rt; watch_over_floor(&stack), fault(7, None, 2));
     let mut same = Watch::new(Floor::new(Bench::new(), 0b110), 0b110);
     same.frame(frame(-32767, 0))?;
     same.sample();
@@ -87,7 +95,7 @@ fn faults_climb(rt: HostRuntime) {
     ] {
         let low = Fault {
             cause: 7,
-            input: 3,
+            input: Some(3),
             distance,
         };
         assert_eq!(rt; distance_through(low, stages), expected);
@@ -98,15 +106,15 @@ fn faults_climb(rt: HostRuntime) {
 #[test]
 fn two_watches_over_a_plant(rt: HostRuntime) -> Result<(), Fail> {
     let mut stack = Watch::new(Watch::new(Plant::new(), 0b1), 0b1);
-    stack.put(Reading::nearest(-25616), Reading::nearest(0), 0)?;
+    stack.put(signals(-25616, 0))?;
     stack.sample();
     assert_eq!(rt; stack.input(1).is_ok(), true);
-    assert_eq!(rt; watch_over_watch(&stack), fault(100, 1, 1));
+    assert_eq!(rt; watch_over_watch(&stack), fault(100, Some(1), 1));
     let mut upper = Watch::new(Watch::new(Plant::new(), 0b0), 0b1);
-    upper.put(Reading::nearest(-25600), Reading::nearest(0), 0)?;
+    upper.put(signals(-25600, 0))?;
     upper.sample();
     assert_eq!(rt; watch_over_watch(&upper), Ok(()));
     upper.sample();
-    assert_eq!(rt; watch_over_watch(&upper), fault(100, 1, 0));
+    assert_eq!(rt; watch_over_watch(&upper), fault(100, Some(1), 0));
     Ok(())
 }

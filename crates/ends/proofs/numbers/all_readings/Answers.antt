@@ -1,15 +1,11 @@
-use Rattle.std.proofs.Common.{pos, arith, rules}
-use Rattle.std.proofs.lemmas.List.{at_drop_more, at_drop_all}
-use Rattle.readings.specs.Range.{are_readings}
+use Rattle.std.proofs.Common.{rules, tests}
+use Rattle.std.proofs.lemmas.Iterator.{YieldsList-from_slice}
+use Rattle.std.proofs.lemmas.Iterator.Search.{all_from_yields_List}
+use Rattle.readings.specs.Range.{is_reading}
+use Rattle.ends.proofs.ListLaws.{all_tests}
 use Rattle.ends.proofs.numbers.all_readings.Goals as goal
 
-pub returns-then-not-is_reading : goal.returns-then-not-is_reading
-returns-then-not-is_reading c =
-    let e = at_drop_more are_readings c.args.values.now c.loop-x.x-index (pos 0) (omega arith) in search rules
-
-pub loop-x-preserved : goal.loop-x-preserved
-loop-x-preserved c =
-    let e = at_drop_more are_readings c.args.values.now c.loop-x.x-index (pos 0) (omega arith) in search rules
-
 pub returns : goal.returns
-returns c = let e = at_drop_all are_readings c.args.values.now c.loop-x.x-index (omega arith) in search rules
+returns c =
+    rw all_tests (all_from_yields_List is_reading _ _ _ c.all.ensures.ran (YieldsList-from_slice c.args.values.now cc)
+    (λ x b q k. search (rules, tests)))

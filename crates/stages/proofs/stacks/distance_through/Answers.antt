@@ -1,5 +1,5 @@
 use Rattle.stages.proofs.StackLaws.{distance_law}
 use Rattle.stages.proofs.stacks.distance_through.Goals as goal
 
-pub returns : goal.returns
-returns c = record { distance = c.saturating_add.ensures; law = distance_law }
+pub returns-clause-law : goal.returns-clause-law
+returns-clause-law c = distance_law
