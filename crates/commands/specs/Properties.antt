@@ -12,6 +12,7 @@ use Rattle.commands.specs.declared.command.Analog.{Analog}
 use Rattle.commands.specs.declared.command.Analog.TheVariants as an
 use Rattle.commands.specs.declared.command.Operands.{Operands}
 use Rattle.commands.specs.declared.command.Operands.TheVariants.{Unused, Constant, First, Both}
+use Rattle.commands.specs.declared.command.SourceKind.TheVariants.{Reading, Bit}
 use Rattle.commands.specs.declared.command.Requirement.{Requirement}
 use Rattle.commands.specs.declared.command.Requirement.TheVariants.{Nothing, UpperLine, Table, Range}
 
@@ -125,53 +126,53 @@ analog_name (an.Delay d) = delay_name d
 -- the sources that a command of a binary line uses
 abbrev pub binary_operands : Binary → Operands
 binary_operands bit.Nop = Unused
-binary_operands bit.Btn = First
-binary_operands bit.Bti = First
-binary_operands bit.Ann = Both
-binary_operands bit.Ani = Both
-binary_operands bit.Ain = Both
-binary_operands bit.Aii = Both
-binary_operands bit.Onn = Both
-binary_operands bit.Oni = Both
-binary_operands bit.Oin = Both
-binary_operands bit.Oii = Both
-binary_operands bit.Xnn = Both
-binary_operands bit.Xni = Both
-binary_operands bit.Frs = Both
-binary_operands bit.Cgt = Both
-binary_operands bit.Cgh = Both
+binary_operands bit.Btn = First Bit
+binary_operands bit.Bti = First Bit
+binary_operands bit.Ann = Both Bit Bit
+binary_operands bit.Ani = Both Bit Bit
+binary_operands bit.Ain = Both Bit Bit
+binary_operands bit.Aii = Both Bit Bit
+binary_operands bit.Onn = Both Bit Bit
+binary_operands bit.Oni = Both Bit Bit
+binary_operands bit.Oin = Both Bit Bit
+binary_operands bit.Oii = Both Bit Bit
+binary_operands bit.Xnn = Both Bit Bit
+binary_operands bit.Xni = Both Bit Bit
+binary_operands bit.Frs = Both Bit Bit
+binary_operands bit.Cgt = Both Reading Reading
+binary_operands bit.Cgh = Both Reading Reading
 
 -- the sources that a command of an analog line uses, or its constant
 abbrev pub analog_operands : Analog → Operands
 analog_operands an.Nop = Unused
-analog_operands an.Sol = Both
-analog_operands an.Sih = Both
-analog_operands an.Sil = Both
-analog_operands an.Szl = Both
-analog_operands an.Szh = Both
-analog_operands an.Abs = First
-analog_operands an.Inv = First
-analog_operands an.Dir = First
-analog_operands an.Ma0 = First
-analog_operands an.Ma1 = First
-analog_operands an.Ma2 = First
-analog_operands an.Ma3 = First
-analog_operands an.Max = Both
-analog_operands an.Min = Both
-analog_operands an.Add = Both
-analog_operands an.Sub = Both
-analog_operands an.Mul = Both
-analog_operands an.Div = Both
-analog_operands an.Rez = First
-analog_operands an.Qua = First
-analog_operands an.Rad = First
-analog_operands an.Ta0 = First
+analog_operands an.Sol = Both Reading Bit
+analog_operands an.Sih = Both Reading Bit
+analog_operands an.Sil = Both Reading Bit
+analog_operands an.Szl = Both Reading Bit
+analog_operands an.Szh = Both Reading Bit
+analog_operands an.Abs = First Reading
+analog_operands an.Inv = First Reading
+analog_operands an.Dir = First Reading
+analog_operands an.Ma0 = First Reading
+analog_operands an.Ma1 = First Reading
+analog_operands an.Ma2 = First Reading
+analog_operands an.Ma3 = First Reading
+analog_operands an.Max = Both Reading Reading
+analog_operands an.Min = Both Reading Reading
+analog_operands an.Add = Both Reading Reading
+analog_operands an.Sub = Both Reading Reading
+analog_operands an.Mul = Both Reading Reading
+analog_operands an.Div = Both Reading Reading
+analog_operands an.Rez = First Reading
+analog_operands an.Qua = First Reading
+analog_operands an.Rad = First Reading
+analog_operands an.Ta0 = First Reading
 analog_operands an.Fix = Constant
 analog_operands an.Flx = Constant
-analog_operands (an.Scale f) = First
-analog_operands (an.LimitRate r) = Both
-analog_operands (an.Integrate d) = Both
-analog_operands (an.Delay d) = Both
+analog_operands (an.Scale f) = First Reading
+analog_operands (an.LimitRate r) = Both Reading Reading
+analog_operands (an.Integrate d) = Both Reading Reading
+analog_operands (an.Delay d) = Both Reading Reading
 
 -- what load asks of a line with the command, besides that its side has it
 abbrev pub requirement_of : Analog → Requirement

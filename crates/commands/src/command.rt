@@ -1,4 +1,7 @@
 // The commands, named as they are printed; `Analog` carries the setting that its code stands for.
+ghost use Rattle.commands.specs.declared.command.Operands.{Operands};
+ghost use Rattle.std.specs.Prelude.{◌≡◌, ℕ, List, Option};
+
 use readings::settings::{Divisor, Factor, Rate};
 
 // The commands of binary lines, 00H to 3FH.
@@ -60,13 +63,20 @@ pub enum Analog {
     Delay(Divisor),
 }
 
+// What a source byte addresses.
+#[derive(Clone, Copy, PartialEq, Eq, Debug)]
+pub enum SourceKind {
+    Reading,
+    Bit,
+}
+
 // What stands in the two source bytes of a line: nothing that counts, a constant's word, one source, or two.
 #[derive(Clone, Copy, PartialEq, Eq, Debug)]
 pub enum Operands {
     Unused,
     Constant,
-    First,
-    Both,
+    First(SourceKind),
+    Both(SourceKind, SourceKind),
 }
 
 // What load asks of a line because of its command, besides that its side has it.
@@ -79,4 +89,30 @@ pub enum Requirement {
     Table,
     // the constant lies within 31984 of 0
     Range,
+}
+
+// The commands of one side, binary or analog.
+pub trait Command: Copy {
+    ghost decoded: { ℕ → Option Self };
+
+    ghost idle: { Self };
+
+    ghost printed: { Self → List ℕ };
+
+    ghost sources: { Self → Operands };
+
+    // The command that the code stands for on a line of this side.
+    fn decode(code: u8) -> Option<Self>
+        ensures { result ≡ decoded code };
+
+    fn nop() -> Self
+        ensures { result ≡ idle };
+
+    // The name as it is printed.
+    fn name(self) -> &'static str
+        ensures { result.now ≡ printed self };
+
+    // What stands in the two source bytes.
+    fn operands(self) -> Operands
+        ensures { result ≡ sources self };
 }

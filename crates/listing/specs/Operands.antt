@@ -31,8 +31,8 @@ word_text (Bytes w) = byte_text w.low ++ (codes ", " ++ byte_text w.high)
 abbrev pub operand_of : Operands → (sr1 sr2 : ℕ) → Option Operand
 operand_of Unused a b = cond (a == 0 && b == 0) None (Some (Two a b))
 operand_of kind.Constant a b = Some (Constant (written_of (record { low = a; high = b })))
-operand_of First a b = Some (cond (b == 0) (One a) (Two a b))
-operand_of Both a b = Some (Two a b)
+operand_of (First k) a b = Some (cond (b == 0) (One a) (Two a b))
+operand_of (Both j k) a b = Some (Two a b)
 
 -- a constant in percent follows a number sign
 abbrev pub constant_text : Written → List ℕ

@@ -2,12 +2,12 @@
 use Rattle.std.specs.Prelude.{ℕ, zero, suc, ◌-◌, ◌/◌, ◌%◌, cond, List, [], ◌++◌, Some, None, codes, decimal, Option, nat_lt, slice_index_or}
 use Rattle.readings.specs.declared.word.Word.{Word}
 use Rattle.notation.specs.Bytes.{byte_text}
+use Rattle.commands.specs.declared.command.Operands.{Operands}
 use Rattle.commands.specs.declared.command.Analog.TheVariants as an
 use Rattle.commands.specs.declared.command.Binary.TheVariants as bit
 use Rattle.commands.specs.Properties.{analog_name, analog_operands, binary_name, binary_operands}
-use Rattle.parcel.specs.declared.configuration.AnalogLine.{AnalogLine}
-use Rattle.parcel.specs.declared.configuration.BinaryLine.{BinaryLine}
 use Rattle.parcel.specs.declared.configuration.Configuration.{Configuration}
+use Rattle.parcel.specs.declared.line.Line.{Line}
 use Rattle.listing.specs.declared.operand.Operand.{Operand}
 use Rattle.listing.specs.Operands.{operand_of, operand_text, word_text, written_of}
 
@@ -25,19 +25,15 @@ abbrev pub entry_text : (address : ℕ) (name : List ℕ) → Option Operand →
 entry_text a name None = []
 entry_text a name (Some o) = row_text a name o ++ codes "\n"
 
--- a binary line's row
-abbrev pub binary_text : (address : ℕ) → BinaryLine → List ℕ
-binary_text a l = entry_text a (binary_name l.command) (operand_of (binary_operands l.command) l.sr1 l.sr2)
-
--- an analog line's row
-abbrev pub analog_text : (address : ℕ) → AnalogLine → List ℕ
-analog_text a l = entry_text a (analog_name l.command) (operand_of (analog_operands l.command) l.sr1 l.sr2)
+-- a line's row, by the names and the sources of its side's commands
+abbrev pub command_text : {C : Type 0} → (printed : C → List ℕ) → (sources : C → Operands) → (address : ℕ) → Line C → List ℕ
+command_text printed sources a l = entry_text a (printed l.command) (operand_of (sources l.command) l.sr1 l.sr2)
 
 -- the row of the line at an address: binary below 40H, analog from there on
 abbrev pub line_text : Configuration → (address : ℕ) → List ℕ
 line_text c a =
-    cond (nat_lt a 0x40) (binary_text a (slice_index_or c.binary a (record { command = bit.Nop; sr1 = 0; sr2 = 0 })))
-    (analog_text a (slice_index_or c.analog (a - 0x40) (record { command = an.Nop; sr1 = 0; sr2 = 0 })))
+    cond (nat_lt a 0x40) (command_text binary_name binary_operands a (slice_index_or c.binary a (record { command = bit.Nop; sr1 = 0; sr2 = 0 })))
+    (command_text analog_name analog_operands a (slice_index_or c.analog (a - 0x40) (record { command = an.Nop; sr1 = 0; sr2 = 0 })))
 
 -- a table's row: the point's number in two digits, and its word
 abbrev pub table_row_text : (place : ℕ) → Word → List ℕ

@@ -2,9 +2,10 @@
 ghost use Rattle.listing.specs.Operands.{operand_of, operand_text, word_text, written_of};
 ghost use Rattle.std.specs.Prelude.{◌≡◌, Some};
 
-use commands::command::Operands;
+use commands::command::{Command, Operands};
 use notation::hex::Hex;
 use notation::percent::Percent;
+use parcel::line::Line;
 use readings::word::Word;
 use std::fmt;
 
@@ -51,30 +52,15 @@ pub enum Operand {
 
 impl Operand {
     // None for an unused line whose bytes are zero.
-    pub fn of(kind: Operands, sr1: u8, sr2: u8) -> Option<Operand>
-        ensures { result ≡ operand_of kind sr1 sr2 }
+    pub fn of<C: Command>(line: Line<C>) -> Option<Operand>
+        ensures { result ≡ operand_of (C.sources line.command) line.sr1 line.sr2 }
     {
-        match kind {
-            Operands::Unused => {
-                if sr1 == 0 && sr2 == 0 {
-                    return None;
-                }
-                Some(Operand::Two(sr1, sr2))
-            }
-            Operands::Constant => {
-                let word = Word {
-                    low: sr1,
-                    high: sr2,
-                };
-                Some(Operand::Constant(Written::of(word)))
-            }
-            Operands::First => {
-                if sr2 == 0 {
-                    return Some(Operand::One(sr1));
-                }
-                Some(Operand::Two(sr1, sr2))
-            }
-            Operands::Both => Some(Operand::Two(sr1, sr2)),
+        let (sr1, sr2) = (line.sr1, line.sr2);
+        match line.command.operands() {
+            Operands::Unused if sr1 == 0 && sr2 == 0 => None,
+            Operands::Constant => Some(Operand::Constant(Written::of(line.word()))),
+            Operands::First(_) if sr2 == 0 => Some(Operand::One(sr1)),
+            _ => Some(Operand::Two(sr1, sr2)),
         }
     }
 }

@@ -1,10 +1,12 @@
 // The rows of a listing.
-ghost use Rattle.listing.specs.Rows.{entry_text, line_text, listing_text, point_text, row_text, table_row_text, up_to};
+ghost use Rattle.listing.specs.Rows.{command_text, line_text, listing_text, point_text, row_text, table_row_text, up_to};
 ghost use Rattle.std.specs.Prelude.{◌≡◌, IfOk, Some, string_bytes};
 
 use crate::operand::{Operand, Written};
+use commands::command::Command;
 use notation::hex::Hex;
 use parcel::configuration::Configuration;
+use parcel::line::Line;
 use readings::word::Word;
 use std::alloc::{AllocError, Global};
 use std::fmt;
@@ -47,19 +49,14 @@ impl fmt::Display for TableRow {
 }
 
 // The text of a line's row, empty where the line is left out.
-fn entry(
-    heap: Global,
-    address: u8,
-    name: &'static str,
-    operand: Option<Operand>,
-) -> Result<String, AllocError>
-    ensures { IfOk result (λ t. string_bytes t ≡ entry_text address name.now operand) }
+fn row_of<C: Command>(heap: Global, address: u8, line: Line<C>) -> Result<String, AllocError>
+    ensures { IfOk result (λ t. string_bytes t ≡ command_text C.printed C.sources address line) }
 {
-    match operand {
+    match Operand::of(line) {
         Some(operand) => {
             let row = Row {
                 address,
-                name,
+                name: line.command.name(),
                 operand,
             };
             format!(in heap; "{row}\n")
@@ -72,21 +69,9 @@ fn line_entry(heap: Global, configuration: &Configuration, line: u8) -> Result<S
     ensures { IfOk result (λ t. string_bytes t ≡ line_text configuration.now line) }
 {
     if line < 0x40 {
-        let l = configuration.binary[line as usize];
-        return entry(
-            heap,
-            line,
-            l.command.name(),
-            Operand::of(l.command.operands(), l.sr1, l.sr2),
-        );
+        return row_of(heap, line, configuration.binary[line as usize]);
     }
-    let l = configuration.analog[line as usize - 0x40];
-    entry(
-        heap,
-        line,
-        l.command.name(),
-        Operand::of(l.command.operands(), l.sr1, l.sr2),
-    )
+    row_of(heap, line, configuration.analog[line as usize - 0x40])
 }
 
 fn lines(heap: Global, configuration: &Configuration) -> Result<String, AllocError>

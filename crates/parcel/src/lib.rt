@@ -1,6 +1,7 @@
-// What a parcel says: its contents list, load's questions, the configuration, trial changes and the listing.
+// What a parcel says: its contents list, load's questions, the configuration and trial changes.
 #![tactic(auto)]
 
+mod bodies;
 pub mod configuration;
 mod contents;
 pub mod line;

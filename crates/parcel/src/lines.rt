@@ -1,14 +1,12 @@
 // The questions about each line.
-ghost use Rattle.parcel.specs.Contents.{Within};
-ghost use Rattle.parcel.specs.Lines.{analog_asked, bytes_at, line_asked, lines_asked, within_limit};
+ghost use Rattle.parcel.specs.Lines.{analog_asked, line_asked, lines_asked, within_limit};
 ghost use Rattle.parcel.specs.Verdicts.{address_of, number_of, question, verdict};
-ghost use Rattle.std.specs.Prelude.{◌≡◌, ◌<◌, ◌≤◌, length};
+ghost use Rattle.std.specs.Prelude.{◌≡◌};
 
-use crate::contents::Directory;
+use crate::bodies::Bodies;
 use crate::line::LineBytes;
 use crate::refusal::Refusal;
-use commands::command::{Analog, Binary, Requirement};
-use readings::word::Word;
+use commands::command::{Analog, Binary, Command, Requirement};
 
 // One question: a no gives its refusal.
 fn ask(yes: bool, refusal: Refusal) -> Result<(), Refusal>
@@ -21,11 +19,7 @@ fn ask(yes: bool, refusal: Refusal) -> Result<(), Refusal>
 fn within_limit(bytes: LineBytes) -> bool
     ensures { result ≡ within_limit bytes }
 {
-    let word = Word {
-        low: bytes.sr1,
-        high: bytes.sr2,
-    };
-    word.constant().value().unsigned_abs() <= 31984
+    bytes.word().constant().value().unsigned_abs() <= 31984
 }
 
 // The questions about an analog line, in a parcel with a table or without.
@@ -53,26 +47,14 @@ fn ask_line(table: bool, line: u8, bytes: LineBytes) -> Result<(), Refusal>
     ask_analog(table, line, bytes)
 }
 
-// The line's bytes in a parcel whose bodies begin at `d`.
-pub fn bytes_of(parcel: &[u8], d: Directory, line: usize) -> LineBytes
-    requires { (Within d (length parcel.now)) × (line < 256) }
-    ensures { result ≡ bytes_at parcel.now d line }
-{
-    LineBytes {
-        code: parcel[d.codes + line],
-        sr1: parcel[d.sr1 + line],
-        sr2: parcel[d.sr2 + line],
-    }
-}
-
 // The questions about each line, upward from 00H.
-pub fn ask_lines(parcel: &[u8], d: Directory) -> Result<(), Refusal>
-    requires { Within d (length parcel.now) }
-    ensures { verdict result ≡ lines_asked parcel.now d 256 }
+pub fn ask_lines(bodies: &Bodies) -> Result<(), Refusal>
+    ensures { verdict result ≡ lines_asked bodies.now.parcel.now bodies.now.directory 256 }
 {
-    let table = d.table.is_some();
+    let table = bodies.directory.table.is_some();
     for line in 0..256usize {
-        ask_line(table, line as u8, bytes_of(parcel, d, line))?;
+        let line = line as u8;
+        ask_line(table, line, bodies.line(line))?;
     }
     Ok(())
 }

@@ -1,22 +1,22 @@
 // Load's questions.
-ghost use Rattle.parcel.specs.Contents.{Within, directory_of};
+ghost use Rattle.parcel.specs.Contents.{directory_of};
 ghost use Rattle.parcel.specs.Parcel.{asked};
 ghost use Rattle.parcel.specs.Verdicts.{verdict};
-ghost use Rattle.std.specs.Prelude.{◌≡◌, length, IfOk};
+ghost use Rattle.std.specs.Prelude.{◌≡◌, IfOk};
 
-use crate::contents::{Directory, directory_of};
+use crate::bodies::{Bodies, bodies_of};
 use crate::lines::ask_lines;
 use crate::refusal::Refusal;
 
-// Load's questions, in their order; where the bodies begin, if each is answered with yes.
-pub(crate) fn questions(parcel: &[u8]) -> Result<Directory, Refusal>
+// Load's questions, in their order; the bodies, if each is answered with yes.
+pub(crate) fn questions(parcel: &[u8]) -> Result<Bodies<'_>, Refusal>
     ensures answer { verdict result ≡ asked parcel.now }
-    ensures places { IfOk result (λ d. d ≡ directory_of parcel.now) }
-    ensures within { IfOk result (λ d. Within d (length parcel.now)) }
+    ensures whole { IfOk result (λ b. b.parcel.now ≡ parcel.now) }
+    ensures places { IfOk result (λ b. b.directory ≡ directory_of parcel.now) }
 {
-    let d = directory_of(parcel)?;
-    ask_lines(parcel, d)?;
-    Ok(d)
+    let bodies = bodies_of(parcel)?;
+    ask_lines(&bodies)?;
+    Ok(bodies)
 }
 
 // Would load take the parcel?

@@ -47,10 +47,10 @@ impl Refusal {
         ensures { result ≡ address_of self }
     {
         match self {
-            Refusal::BadCode(line) => Some(line),
-            Refusal::BadPlace(line) => Some(line),
-            Refusal::NoTable(line) => Some(line),
-            Refusal::OverRange(line) => Some(line),
+            Refusal::BadCode(line)
+            | Refusal::BadPlace(line)
+            | Refusal::NoTable(line)
+            | Refusal::OverRange(line) => Some(line),
             _ => None,
         }
     }

@@ -1,10 +1,10 @@
-ghost use Rattle.std.specs.Prelude.{◌≡◌, ◌+◌, ◌^◌, ◌<◌, length, if◌then◌else◌};
-ghost use Rattle.parcel.specs.Contents.{Within};
+// Trials: one line of a parcel is exchanged, and the old one put back if load would then refuse.
+ghost use Rattle.std.specs.Prelude.{◌≡◌, length, if◌then◌else◌};
 ghost use Rattle.parcel.specs.Parcel.{asked};
-ghost use Rattle.parcel.specs.Trial.{Inside, exchanged, kept, line_in, places_in, tried, with_line};
+ghost use Rattle.parcel.specs.Trial.{Inside, exchanged, kept, places_in, tried, with_line};
 ghost use Rattle.parcel.specs.Verdicts.{verdict};
 
-use crate::contents::Directory;
+use crate::bodies::Bodies;
 use crate::line::LineBytes;
 use crate::questions::questions;
 use crate::refusal::Refusal;
@@ -17,26 +17,16 @@ struct Places {
     sr2: usize,
 }
 
-fn places_in(d: Directory, line: u8) -> Places
-    requires { (d.codes + 256 < 2 ^ 64) × ((d.sr1 + 256 < 2 ^ 64) × (d.sr2 + 256 < 2 ^ 64)) }
-    ensures { result ≡ places_in d line }
+// Where the bytes of a line stand among these bodies.
+fn places_in(bodies: &Bodies, line: u8) -> Places
+    ensures place { result ≡ places_in bodies.now.directory line }
+    ensures inside { Inside result (length bodies.now.parcel.now) }
 {
     let at = line as usize;
     Places {
-        code: d.codes + at,
-        sr1: d.sr1 + at,
-        sr2: d.sr2 + at,
-    }
-}
-
-fn get(parcel: &[u8], at: Places) -> LineBytes
-    requires { Inside at (length parcel.now) }
-    ensures { result ≡ line_in parcel.now at }
-{
-    LineBytes {
-        code: parcel[at.code],
-        sr1: parcel[at.sr1],
-        sr2: parcel[at.sr2],
+        code: bodies.directory.codes + at,
+        sr1: bodies.directory.sr1 + at,
+        sr2: bodies.directory.sr2 + at,
     }
 }
 
@@ -50,6 +40,7 @@ fn put(parcel: &mut [u8], at: Places, line: LineBytes)
 }
 
 // A parcel with one line exchanged. The old line is put back when the exchange ends, unless it was accepted.
+// That the places lie within the parcel stays a clause: a ghost field beside a `&mut` gets no proof where it is dropped.
 struct Exchange<'a> {
     parcel: &'a mut [u8],
     at: Places,
@@ -90,9 +81,9 @@ pub fn trial(parcel: &mut [u8], line: u8, new: LineBytes) -> Result<(), Refusal>
     ensures answer { verdict result ≡ tried parcel.old line new }
     ensures bytes { parcel.new ≡ kept (tried parcel.old line new) (exchanged parcel.old line new) parcel.old }
 {
-    let d = questions(parcel)?;
-    let at = places_in(d, line);
-    let old = get(parcel, at);
+    let bodies = questions(parcel)?;
+    let at = places_in(&bodies, line);
+    let old = bodies.line(line);
     put(parcel, at, new);
     let mut exchange = Exchange {
         parcel,

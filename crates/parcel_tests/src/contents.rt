@@ -1,5 +1,7 @@
 // The contents list.
 use crate::build::{ask, blank, fill, put};
+use std::alloc::Global;
+use std::process::Abort;
 use std::test::Fail;
 
 #[test]
@@ -21,24 +23,28 @@ fn first_byte(rt: HostRuntime) -> Result<(), Fail> {
     Ok(())
 }
 
-// Lawful lists, the parcel cut or lengthened to so many bytes.
-#[test]
-fn whole_length(rt: HostRuntime) -> Result<(), Fail> {
-    let three = [1u8, 2, 3];
-    let four = [1u8, 2, 3, 4];
-    for (length, number) in [(9usize, 12u8), (10, 15), (777, 15), (778, 0), (779, 15)] {
-        let mut parcel = blank(rt.alloc(), &three)?;
-        fill(&mut parcel, 1)?;
-        parcel.truncate(length);
-        assert_eq!(rt; ask(&parcel), (number, 0));
-    }
-    for (length, number) in [(12usize, 12u8), (13, 15), (814, 15), (815, 0), (816, 15)] {
-        let mut parcel = blank(rt.alloc(), &four)?;
+// A lawful list of these kinds, the parcel cut or lengthened to so many bytes.
+fn cut_to(
+    rt: &impl Abort,
+    heap: Global,
+    kinds: &[u8],
+    lengths: [(usize, u8); 5],
+) -> Result<(), Fail> {
+    for (length, number) in lengths {
+        let mut parcel = blank(heap, kinds)?;
         fill(&mut parcel, 1)?;
         parcel.truncate(length);
         assert_eq!(rt; ask(&parcel), (number, 0));
     }
     Ok(())
+}
+
+#[test]
+fn whole_length(rt: HostRuntime) -> Result<(), Fail> {
+    let three = [(9usize, 12u8), (10, 15), (777, 15), (778, 0), (779, 15)];
+    let four = [(12usize, 12u8), (13, 15), (814, 15), (815, 0), (816, 15)];
+    cut_to(&rt, rt.alloc(), &[1, 2, 3], three)?;
+    cut_to(&rt, rt.alloc(), &[1, 2, 3, 4], four)
 }
 
 #[test]

@@ -1,6 +1,9 @@
-use Rattle.std.proofs.Common.{◌≡◌, drop}
+use Rattle.std.proofs.Common.{◌≡◌, length}
 use Rattle.parcel.specs.Contents.{lawful}
 use Rattle.parcel.proofs.contents.distinct.Given as goal
 
-abbrev pub invariant-loop-i : goal.invariant-loop-i
-invariant-loop-i l = lawful (drop l.i l.entries) ≡ lawful l.entries
+abbrev pub invariant-loop-rest : goal.invariant-loop-rest
+invariant-loop-rest l = lawful l.rest ≡ lawful l.entries
+
+abbrev pub decreases-loop-rest : goal.decreases-loop-rest
+decreases-loop-rest l = length l.rest

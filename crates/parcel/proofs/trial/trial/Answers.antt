@@ -8,7 +8,9 @@ pub returns-in_err-ask : goal.returns-in_err-ask
 returns-in_err-ask c =
     let e = c.in_err-ask.field-0.0 in
     let no : refused (number_of e) (address_of e) ≡ tried c.args.parcel.now c.args.line c.args.new = search rules in
+    let old = rw c.in_ok-bodies.ensures.whole at c.line-old.ensures in
+    let at = c.places_in-at.ensures.place in
     record {
       answer = search rules;
-      bytes = c.drop-exchange.ensures ∙ put_back _ _ _ _ _ _ _ _ _ (c.ask.ensures.same ∙ c.put.ensures) c.get-old.ensures no;
+      bytes = c.drop-exchange.ensures ∙ put_back _ _ _ _ _ _ _ _ _ (c.ask.ensures.same ∙ c.put.ensures) (rw at old) no;
     }

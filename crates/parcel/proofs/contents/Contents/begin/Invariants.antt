@@ -1,0 +1,8 @@
+use Rattle.std.proofs.Common.{◌≡◌, ◌+◌, ◌*◌, ◌≤◌, drop}
+use Rattle.parcel.specs.Contents.{begins}
+use Rattle.parcel.proofs.contents.Contents.begin.Given as goal
+
+abbrev pub invariant-loop-e : goal.invariant-loop-e
+invariant-loop-e g l =
+    (begins l.kind (drop l.e-index l.self.entries) l.at ≡ begins l.kind l.self.entries (1 + 3 * g.row.N))
+    × (l.at ≤ 1 + 3 * g.row.N + 65535 * l.e-index)
