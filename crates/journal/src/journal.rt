@@ -1,5 +1,5 @@
 // What the console has done so far. Counts stop at their highest number.
-ghost use Rattle.journal.specs.Journals.{after_answer, after_read, after_save, after_wrong, answers_after, answers_text, any_wrong, blank, journal_text, moved, row_text, rows_text, traffic_text};
+ghost use Rattle.journal.specs.Journals.{Remembers, after_answer, after_read, after_save, after_wrong, answers_after, answers_text, any_wrong, blank, journal_text, moved, row_text, rows_text, traffic_text};
 ghost use Rattle.std.specs.Prelude.{◌≡◌, Some};
 
 use parcel::refusal::Refusal;
@@ -107,7 +107,8 @@ impl Journal {
 
     // A command was wrong.
     pub fn wrong(&mut self)
-        ensures { self.new ≡ after_wrong self.old }
+        ensures state { self.new ≡ after_wrong self.old }
+        ensures remembers { Remembers self.old self.new }
     {
         self.wrong = self.wrong.saturating_add(1);
     }

@@ -34,5 +34,4 @@ returns g c = record {
       ap (λ (v : Vec ℕ Global). vec_items v) c.judge.ensures.same
       ∙ (with_items_is c.args.self.now.parcel c.trial-answer.new.parcel (omega arith)
       ∙ (c.trial-answer.ensures.bytes ∙ ap (left c.args.line c.args.new) c.as_mut_slice.ensures.value));
-  failed = c.judge.ensures.failed;
 }
