@@ -10,8 +10,7 @@ use script::command::{Command, HELP};
 use script::complaint::Complaint;
 use script::parsing::parse;
 use script::reply::Reply;
-use std::io;
-use std::io::{BufRead, Write};
+use std::io::{self, BufRead, Write};
 use std::str::from_utf8;
 
 // The rows of the listing, or the refusal alone.
@@ -89,6 +88,7 @@ fn step<I: BufRead + Drop, W: Write>(desk: &mut Desk<I, W>, text: &str) -> io::R
 pub fn converse<I: BufRead + Drop, W: Write>(desk: &mut Desk<I, W>) -> io::Result<()>
     ensures { Remembers desk.old.journal desk.new.journal }
 {
+    // No `for` over the lines: it would hold them, and each is answered on the whole desk.
     for _ in 0..u64::MAX {
         let Some(bytes) = desk.lines.next() else {
             break;
