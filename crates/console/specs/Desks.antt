@@ -1,11 +1,13 @@
 -- What the console's answers say of the parcel buffer, and what a command leaves of it.
-use Rattle.std.specs.Prelude.{◌≡◌, ℕ, Bool, List, Ok, Err, Result, nat_lt}
+use Rattle.std.specs.Prelude.{◌≡◌, ℕ, List, Ok, Err, Result}
+use Rattle.journal.specs.Journals.{after_wrong}
 use Rattle.journal.specs.declared.journal.Journal.{Journal}
 use Rattle.parcel.specs.Trial.{tried, exchanged, kept}
 use Rattle.parcel.specs.Verdicts.{Verdict, taken, refused, number_of, address_of}
 use Rattle.parcel.specs.declared.refusal.Refusal.{Refusal}
 use Rattle.script.specs.declared.command.Command.{Command}
 use Rattle.script.specs.declared.command.Command.TheVariants.{Parcel, Save, Check, Lines, Trial, Report, Help}
+use Rattle.script.specs.declared.complaint.Complaint.{Complaint}
 use Rattle.script.specs.declared.reply.Reply.{Reply}
 use Rattle.script.specs.declared.reply.Reply.TheVariants.{Done, Bytes, Refused}
 
@@ -36,6 +38,7 @@ BufferAfter (Trial a l) p q = q ≡ kept (tried p a l) (exchanged p a l) p
 BufferAfter Report p q = q ≡ p
 BufferAfter Help p q = q ≡ p
 
--- the flag is up exactly if the journal counts a wrong command
-abbrev pub Agrees : Journal → (failed : Bool) → Type 0
-Agrees j f = f ≡ nat_lt 0 j.wrong
+-- the journal once a command is answered: a complaint counts it as wrong
+abbrev pub after_reply : Journal → Result Reply Complaint → Journal
+after_reply j (Ok r) = j
+after_reply j (Err e) = after_wrong j

@@ -1,10 +1,11 @@
-// What the console keeps: its streams, the parcel buffer, the journal, and whether a command was wrong.
-ghost use Rattle.console.specs.Desks.{Agrees, answer_of, reply_to, told};
-ghost use Rattle.journal.specs.Journals.{after_answer, after_read, after_save, after_wrong, blank};
+// What the console keeps: its streams, the parcel buffer and the journal.
+ghost use Rattle.console.specs.Desks.{after_reply, answer_of, reply_to, told};
+ghost use Rattle.journal.specs.Journals.{Remembers, after_answer, after_read, after_save, after_wrong, any_wrong, blank};
 ghost use Rattle.parcel.specs.Parcel.{asked};
 ghost use Rattle.parcel.specs.Trial.{exchanged, kept, tried};
+ghost use Rattle.script.specs.Commands.{cannot_read, cannot_write, objection};
 ghost use Rattle.script.specs.declared.reply.Reply.TheVariants.{Done, Bytes};
-ghost use Rattle.std.specs.Prelude.{◌≡◌, true, false, [], Ok, Err, vec_len};
+ghost use Rattle.std.specs.Prelude.{◌≡◌, true, false, [], MatchResult, OnErr, OnOk, vec_len};
 
 use journal::journal::Journal;
 use parcel::line::LineBytes;
@@ -23,14 +24,13 @@ pub struct Desk<I, W> {
     pub out: W,
     pub parcel: Vec<u8>,
     pub journal: Journal,
-    pub failed: bool,
 }
 
 impl<I: BufRead + Drop, W: Write> Desk<I, W> {
     pub fn new(rt: HostRuntime, input: I, out: W) -> Desk<I, W>
         ensures buffer { result.parcel.items ≡ [] }
         ensures journal { result.journal ≡ blank }
-        ensures failed { result.failed ≡ false }
+        ensures failed { any_wrong result.journal ≡ false }
     {
         let heap = rt.alloc();
         Desk {
@@ -39,18 +39,24 @@ impl<I: BufRead + Drop, W: Write> Desk<I, W> {
             out,
             parcel: Vec::new(heap),
             journal: Journal::new(),
-            failed: false,
         }
+    }
+
+    // Whether some command was wrong.
+    pub fn failed(&self) -> bool
+        ensures { result ≡ any_wrong self.now.journal }
+    {
+        self.journal.any_wrong()
     }
 
     // The file's bytes become the buffer.
     pub(crate) fn fetch<'a>(&mut self, file: &'a str) -> Result<Reply, Complaint<'a>>
-        ensures cases { elim result [ Ok x ↦ (x ≡ Bytes (vec_len self.new.parcel)) × (self.new.journal ≡ after_read self.old.journal (vec_len self.new.parcel)) | Err e ↦ (self.new.parcel ≡ self.old.parcel) × (self.new.journal ≡ self.old.journal) ] }
-        ensures failed { self.new.failed ≡ self.old.failed }
+        ensures reply { MatchResult result (λ x. x ≡ Bytes (vec_len self.new.parcel)) (λ e. objection e ≡ cannot_read file.now) }
+        ensures read { OnOk result (self.new.journal ≡ after_read self.old.journal (vec_len self.new.parcel)) }
+        ensures same { OnErr result (self.new.parcel ≡ self.old.parcel) }
+        ensures unread { OnErr result (self.new.journal ≡ self.old.journal) }
     {
-        let Ok(bytes) = fs::read(&self.rt, file) else {
-            return Err(Complaint::CannotRead(file));
-        };
+        let bytes = fs::read(&self.rt, file).map_err(|_| Complaint::CannotRead(file))?;
         let n = bytes.len();
         self.parcel = bytes;
         self.journal.read(n);
@@ -58,13 +64,14 @@ impl<I: BufRead + Drop, W: Write> Desk<I, W> {
     }
 
     pub(crate) fn save<'a>(&mut self, file: &'a str) -> Result<Reply, Complaint<'a>>
-        ensures cases { elim result [ Ok x ↦ (x ≡ Done) × (self.new.journal ≡ after_save self.old.journal (vec_len self.old.parcel)) | Err e ↦ self.new.journal ≡ self.old.journal ] }
+        ensures reply { MatchResult result (λ x. x ≡ Done) (λ e. objection e ≡ cannot_write file.now) }
+        ensures saved { OnOk result (self.new.journal ≡ after_save self.old.journal (vec_len self.old.parcel)) }
+        ensures unsaved { OnErr result (self.new.journal ≡ self.old.journal) }
         ensures same { self.new.parcel ≡ self.old.parcel }
-        ensures failed { self.new.failed ≡ self.old.failed }
     {
-        if fs::write(&self.rt, file, self.parcel.as_slice()).is_err() {
-            return Err(Complaint::CannotWrite(file));
-        }
+        fs::write(&self.rt, file, self.parcel.as_slice()).map_err(|_| Complaint::CannotWrite(
+            file,
+        ))?;
         self.journal.saved(self.parcel.len());
         Ok(Reply::Done)
     }
@@ -74,7 +81,6 @@ impl<I: BufRead + Drop, W: Write> Desk<I, W> {
         ensures value { result ≡ reply_to answer }
         ensures noted { self.new.journal ≡ after_answer self.old.journal answer }
         ensures same { self.new.parcel ≡ self.old.parcel }
-        ensures failed { self.new.failed ≡ self.old.failed }
     {
         self.journal.answered(answer);
         match answer {
@@ -87,7 +93,6 @@ impl<I: BufRead + Drop, W: Write> Desk<I, W> {
         ensures answer { told result ≡ asked self.old.parcel.items }
         ensures noted { self.new.journal ≡ after_answer self.old.journal (answer_of result) }
         ensures same { self.new.parcel ≡ self.old.parcel }
-        ensures failed { self.new.failed ≡ self.old.failed }
     {
         let answer = check(self.parcel.as_slice());
         self.judge(answer)
@@ -97,7 +102,6 @@ impl<I: BufRead + Drop, W: Write> Desk<I, W> {
         ensures answer { told result ≡ tried self.old.parcel.items line new }
         ensures noted { self.new.journal ≡ after_answer self.old.journal (answer_of result) }
         ensures bytes { self.new.parcel.items ≡ kept (tried self.old.parcel.items line new) (exchanged self.old.parcel.items line new) self.old.parcel.items }
-        ensures failed { self.new.failed ≡ self.old.failed }
     {
         let answer = trial(self.parcel.as_mut_slice(), line, new);
         self.judge(answer)
@@ -107,7 +111,6 @@ impl<I: BufRead + Drop, W: Write> Desk<I, W> {
     pub(crate) fn reply(&mut self, reply: Reply) -> io::Result<()>
         ensures same { self.new.parcel ≡ self.old.parcel }
         ensures noted { self.new.journal ≡ self.old.journal }
-        ensures failed { self.new.failed ≡ self.old.failed }
     {
         writeln!(self.out, "{reply}")
     }
@@ -115,18 +118,17 @@ impl<I: BufRead + Drop, W: Write> Desk<I, W> {
     pub(crate) fn complain(&mut self, complaint: Complaint<'_>) -> io::Result<()>
         ensures same { self.new.parcel ≡ self.old.parcel }
         ensures noted { self.new.journal ≡ after_wrong self.old.journal }
-        ensures failed { self.new.failed ≡ true }
-        ensures agrees { Agrees self.new.journal self.new.failed }
+        ensures failed { any_wrong self.new.journal ≡ true }
+        ensures remembers { Remembers self.old.journal self.new.journal }
     {
-        self.failed = true;
         self.journal.wrong();
         writeln!(self.out, "error: {complaint}")
     }
 
     pub(crate) fn answer(&mut self, answer: Result<Reply, Complaint<'_>>) -> io::Result<()>
         ensures same { self.new.parcel ≡ self.old.parcel }
-        ensures noted { self.new.journal ≡ elim answer.entry [ Ok x ↦ self.old.journal | Err e ↦ after_wrong self.old.journal ] }
-        ensures failed { self.new.failed ≡ elim answer.entry [ Ok x ↦ self.old.failed | Err e ↦ true ] }
+        ensures noted { self.new.journal ≡ after_reply self.old.journal answer.entry }
+        ensures remembers { Remembers self.old.journal self.new.journal }
     {
         match answer {
             Ok(reply) => self.reply(reply),

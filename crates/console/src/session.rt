@@ -1,5 +1,6 @@
 // A conversation: line by line, until the input ends.
-ghost use Rattle.console.specs.Desks.{Agrees, BufferAfter};
+ghost use Rattle.console.specs.Desks.{BufferAfter};
+ghost use Rattle.journal.specs.Journals.{Remembers};
 ghost use Rattle.std.specs.Prelude.{◌≡◌};
 
 use crate::desk::Desk;
@@ -9,41 +10,28 @@ use script::command::{Command, HELP};
 use script::complaint::Complaint;
 use script::parsing::parse;
 use script::reply::Reply;
-use std::io;
-use std::io::{BufRead, Write};
+use std::io::{self, BufRead, Write};
 use std::str::from_utf8;
-
-// A complaint that could hold a reference is made in a function of its own: in place, the check does not cover it.
-fn not_text() -> Complaint<'static> {
-    Complaint::NotText
-}
-
-fn no_memory() -> Complaint<'static> {
-    Complaint::NoMemory
-}
 
 // The rows of the listing, or the refusal alone.
 fn list<I: BufRead + Drop, W: Write>(desk: &mut Desk<I, W>) -> io::Result<()>
     ensures same { desk.new.parcel ≡ desk.old.parcel }
-    ensures agrees { Agrees desk.old.journal desk.old.failed → Agrees desk.new.journal desk.new.failed }
+    ensures remembers { Remembers desk.old.journal desk.new.journal }
 {
-    let answer = match read(desk.parcel.as_slice()) {
-        Ok(configuration) => {
-            let Ok(rows) = listing(desk.rt.alloc(), &configuration) else {
-                return desk.complain(no_memory());
-            };
-            desk.out.write_all(rows.as_bytes())?;
-            Ok(())
-        }
-        Err(refusal) => Err(refusal),
-    };
-    let reply = desk.judge(answer);
+    let answer = read(desk.parcel.as_slice());
+    if let Ok(configuration) = &answer {
+        let Ok(rows) = listing(desk.rt.alloc(), configuration) else {
+            return desk.complain(Complaint::NoMemory);
+        };
+        desk.out.write_all(rows.as_bytes())?;
+    }
+    let reply = desk.judge(answer.map(|_| ()));
     desk.reply(reply)
 }
 
 fn obey<I: BufRead + Drop, W: Write>(desk: &mut Desk<I, W>, command: Command<'_>) -> io::Result<()>
     ensures buffer { BufferAfter command.entry desk.old.parcel.items desk.new.parcel.items }
-    ensures agrees { Agrees desk.old.journal desk.old.failed → Agrees desk.new.journal desk.new.failed }
+    ensures remembers { Remembers desk.old.journal desk.new.journal }
 {
     match command {
         Command::Parcel(file) => {
@@ -64,8 +52,7 @@ fn obey<I: BufRead + Drop, W: Write>(desk: &mut Desk<I, W>, command: Command<'_>
             desk.reply(reply)
         }
         Command::Report => {
-            let journal = desk.journal;
-            write!(desk.out, "{journal}")?;
+            write!(desk.out, "{}", desk.journal)?;
             desk.reply(Reply::Done)
         }
         Command::Help => {
@@ -77,7 +64,7 @@ fn obey<I: BufRead + Drop, W: Write>(desk: &mut Desk<I, W>, command: Command<'_>
 
 // Answers one line, unless it is blank or a comment.
 fn step<I: BufRead + Drop, W: Write>(desk: &mut Desk<I, W>, text: &str) -> io::Result<()>
-    ensures { Agrees desk.old.journal desk.old.failed → Agrees desk.new.journal desk.new.failed }
+    ensures { Remembers desk.old.journal desk.new.journal }
 {
     if text.starts_with('#') {
         return Ok(());
@@ -86,7 +73,7 @@ fn step<I: BufRead + Drop, W: Write>(desk: &mut Desk<I, W>, text: &str) -> io::R
         .split_whitespace()
         .collect::<Vec<&str>>(desk.rt.alloc())
     else {
-        return desk.complain(no_memory());
+        return desk.complain(Complaint::NoMemory);
     };
     if words.is_empty() {
         return Ok(());
@@ -99,8 +86,9 @@ fn step<I: BufRead + Drop, W: Write>(desk: &mut Desk<I, W>, text: &str) -> io::R
 
 // Answers every line of the input.
 pub fn converse<I: BufRead + Drop, W: Write>(desk: &mut Desk<I, W>) -> io::Result<()>
-    ensures { Agrees desk.old.journal desk.old.failed → Agrees desk.new.journal desk.new.failed }
+    ensures { Remembers desk.old.journal desk.new.journal }
 {
+    // No `for` over the lines: it would hold them, and each is answered on the whole desk.
     for _ in 0..u64::MAX {
         let Some(bytes) = desk.lines.next() else {
             break;
@@ -108,7 +96,7 @@ pub fn converse<I: BufRead + Drop, W: Write>(desk: &mut Desk<I, W>) -> io::Resul
         let bytes = bytes?;
         match from_utf8(bytes.as_slice()) {
             Ok(text) => step(desk, text)?,
-            Err(_) => desk.complain(not_text())?,
+            Err(_) => desk.complain(Complaint::NotText)?,
         }
         desk.out.flush()?;
     }

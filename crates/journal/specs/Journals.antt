@@ -1,5 +1,5 @@
 -- The console's journal: what each event makes of its counts, and what is printed of it.
-use Rattle.std.specs.Prelude.{ℕ, zero, suc, ◌+◌, ◌-◌, ◌^◌, min, cond, List, [], ◌∷◌, ◌++◌, replicate, Ok, Err, codes, decimal, Result, ◌==◌, slice_index, slice_set}
+use Rattle.std.specs.Prelude.{ℕ, zero, suc, ◌+◌, ◌-◌, ◌^◌, ◌≤◌, min, cond, Bool, nat_lt, List, [], ◌∷◌, ◌++◌, replicate, Ok, Err, codes, decimal, Result, ◌==◌, slice_index, slice_set}
 use Rattle.parcel.specs.Verdicts.{number_of}
 use Rattle.parcel.specs.declared.refusal.Refusal.{Refusal}
 use Rattle.journal.specs.declared.journal.Traffic.{Traffic}
@@ -50,6 +50,14 @@ after_answer j a = record { read = j.read; saved = j.saved; answers = answers_af
 -- a command was wrong
 abbrev pub after_wrong : Journal → Journal
 after_wrong j = record { read = j.read; saved = j.saved; answers = j.answers; refusals = j.refusals; wrong = counted j.wrong }
+
+-- some command was wrong
+abbrev pub any_wrong : Journal → Bool
+any_wrong j = nat_lt 0 j.wrong
+
+-- no wrong command is forgotten
+abbrev pub Remembers : (before after : Journal) → Type 0
+Remembers j k = j.wrong ≤ k.wrong
 
 -- the end of a row
 abbrev pub newline : List ℕ

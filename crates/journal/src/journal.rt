@@ -1,5 +1,5 @@
 // What the console has done so far. Counts stop at their highest number.
-ghost use Rattle.journal.specs.Journals.{after_answer, after_read, after_save, after_wrong, answers_after, answers_text, blank, journal_text, moved, row_text, rows_text, traffic_text};
+ghost use Rattle.journal.specs.Journals.{Remembers, after_answer, after_read, after_save, after_wrong, answers_after, answers_text, any_wrong, blank, journal_text, moved, row_text, rows_text, traffic_text};
 ghost use Rattle.std.specs.Prelude.{◌≡◌, Some};
 
 use parcel::refusal::Refusal;
@@ -9,21 +9,21 @@ use std::fmt;
 const NUMBERS: usize = 25;
 
 // Parcels that were read or saved, and their bytes.
-#[derive(Clone, Copy)]
+#[derive(Clone, Copy, Default)]
 struct Traffic {
     parcels: u32,
     bytes: u64,
 }
 
 // Questions about a parcel, and how they were answered.
-#[derive(Clone, Copy)]
+#[derive(Clone, Copy, Default)]
 struct Answers {
     given: u32,
     taken: u32,
     refused: u32,
 }
 
-// How often each refusal was given, by its number.
+// How often each refusal was given, by its number. No map: that would want memory, and a count may not fail.
 #[derive(Clone, Copy)]
 struct Refusals([u32; NUMBERS]);
 
@@ -56,12 +56,12 @@ impl Answers {
             Ok(()) => Answers {
                 given,
                 taken: self.taken.saturating_add(1),
-                refused: self.refused,
+                ..self
             },
             Err(_) => Answers {
                 given,
-                taken: self.taken,
                 refused: self.refused.saturating_add(1),
+                ..self
             },
         }
     }
@@ -71,18 +71,10 @@ impl Journal {
     pub fn new() -> Journal
         ensures { result ≡ blank }
     {
-        let nothing = Traffic {
-            parcels: 0,
-            bytes: 0,
-        };
         Journal {
-            read: nothing,
-            saved: nothing,
-            answers: Answers {
-                given: 0,
-                taken: 0,
-                refused: 0,
-            },
+            read: Traffic::default(),
+            saved: Traffic::default(),
+            answers: Answers::default(),
             refusals: Refusals([0; NUMBERS]),
             wrong: 0,
         }
@@ -115,9 +107,17 @@ impl Journal {
 
     // A command was wrong.
     pub fn wrong(&mut self)
-        ensures { self.new ≡ after_wrong self.old }
+        ensures state { self.new ≡ after_wrong self.old }
+        ensures remembers { Remembers self.old self.new }
     {
         self.wrong = self.wrong.saturating_add(1);
+    }
+
+    // Whether some command was wrong.
+    pub fn any_wrong(&self) -> bool
+        ensures { result ≡ any_wrong self.now }
+    {
+        self.wrong > 0
     }
 }
 
@@ -125,9 +125,7 @@ impl fmt::Display for Traffic {
     ghost output = { λ x. Some (traffic_text x) };
 
     fn fmt<W: fmt::Write>(&self, f: &mut fmt::Formatter<W>) -> fmt::Result {
-        let parcels = self.parcels;
-        let bytes = self.bytes;
-        write!(f, "{parcels}, bytes {bytes}")
+        write!(f, "{}, bytes {}", self.parcels, self.bytes)
     }
 }
 
@@ -135,9 +133,11 @@ impl fmt::Display for Answers {
     ghost output = { λ x. Some (answers_text x) };
 
     fn fmt<W: fmt::Write>(&self, f: &mut fmt::Formatter<W>) -> fmt::Result {
-        let given = self.given;
-        let taken = self.taken;
-        let refused = self.refused;
+        let Answers {
+            given,
+            taken,
+            refused,
+        } = *self;
         write!(f, "{given}: taken {taken}, refused {refused}")
     }
 }
@@ -166,12 +166,8 @@ impl fmt::Display for Refusals {
     ghost output = { λ x. Some (rows_text x.0 25) };
 
     fn fmt<W: fmt::Write>(&self, f: &mut fmt::Formatter<W>) -> fmt::Result {
-        for number in 0..NUMBERS {
-            let row = Row {
-                number,
-                count: self.0[number],
-            };
-            write!(f, "{row}")?;
+        for (number, &count) in self.0.iter().enumerate() {
+            write!(f, "{}", Row { number, count })?;
         }
         Ok(())
     }
@@ -181,11 +177,13 @@ impl fmt::Display for Journal {
     ghost output = { λ x. Some (journal_text x) };
 
     fn fmt<W: fmt::Write>(&self, f: &mut fmt::Formatter<W>) -> fmt::Result {
-        let read = self.read;
-        let answers = self.answers;
-        let refusals = self.refusals;
-        let saved = self.saved;
-        let wrong = self.wrong;
+        let Journal {
+            read,
+            saved,
+            answers,
+            refusals,
+            wrong,
+        } = *self;
         writeln!(
             f,
             "parcels read {read}\nquestions answered {answers}\n{refusals}parcels saved {saved}\nwrong commands {wrong}"

@@ -51,24 +51,28 @@ objection (CannotWrite f) = cannot_write f.now
 objection NotText = not_text
 objection NoMemory = no_memory
 
--- what comes of a byte's word: the number, or what is said of it
-abbrev pub numbered : Result ℕ Complaint → Result ℕ Objection
-numbered (Ok n) = Ok n
-numbered (Err e) = Err (objection e)
+-- what comes of a word: its value, or what is said of it
+abbrev pub objected : {A : Type 0} → Result A Complaint → Result A Objection
+objected (Ok x) = Ok x
+objected (Err e) = Err (objection e)
 
 -- what comes of a line: what the command says, or what is said of it
 abbrev pub heard : Result Command Complaint → Result Said Objection
 heard (Ok c) = Ok (said c)
 heard (Err e) = Err (objection e)
 
--- a number, or the word that is no byte
-abbrev pub or_not_byte : (word : List ℕ) → Option ℕ → Result ℕ Objection
-or_not_byte w None = Err (not_byte w)
-or_not_byte w (Some n) = Ok n
+-- a value, or what is said of the word that has none
+abbrev pub or_else : {A : Type 0} → Objection → Option A → Result A Objection
+or_else e None = Err e
+or_else e (Some x) = Ok x
 
 -- the byte that a word writes
 abbrev pub byte_said : (word : List ℕ) → Result ℕ Objection
-byte_said w = or_not_byte w (byte_read w)
+byte_said w = or_else (not_byte w) (byte_read w)
+
+-- the verb that a word names
+abbrev pub verb_said : (word : List ℕ) → Result Verb Objection
+verb_said w = or_else (unknown w) (verb_read w)
 
 -- a trial of four bytes; the first that is none is named
 abbrev pub trial_of : (a c p q : Result ℕ Objection) → Result Said Objection
@@ -99,20 +103,20 @@ with_bytes v (a ∷ c ∷ p ∷ q ∷ []) = trial_of (byte_said a) (byte_said c)
 with_bytes v (a ∷ c ∷ p ∷ q ∷ w ∷ ws) = Err (word_count v)
 
 -- the words after a verb
-abbrev pub arguments_read : Option Verb → (verb : List ℕ) → List (List ℕ) → Result Said Objection
-arguments_read None v ws = Err (unknown v)
-arguments_read (Some VParcel) v ws = with_file reads v ws
-arguments_read (Some VSave) v ws = with_file saves v ws
-arguments_read (Some VCheck) v ws = alone checks v ws
-arguments_read (Some VLines) v ws = alone lists v ws
-arguments_read (Some VTrial) v ws = with_bytes v ws
-arguments_read (Some VReport) v ws = alone reports v ws
-arguments_read (Some VHelp) v ws = alone helps v ws
+abbrev pub arguments_read : Result Verb Objection → (verb : List ℕ) → List (List ℕ) → Result Said Objection
+arguments_read (Err e) v ws = Err e
+arguments_read (Ok VParcel) v ws = with_file reads v ws
+arguments_read (Ok VSave) v ws = with_file saves v ws
+arguments_read (Ok VCheck) v ws = alone checks v ws
+arguments_read (Ok VLines) v ws = alone lists v ws
+arguments_read (Ok VTrial) v ws = with_bytes v ws
+arguments_read (Ok VReport) v ws = alone reports v ws
+arguments_read (Ok VHelp) v ws = alone helps v ws
 
 -- the words of a line
 abbrev pub command_read : List (List ℕ) → Result Said Objection
 command_read [] = Err (unknown [])
-command_read (v ∷ ws) = arguments_read (verb_read v) v ws
+command_read (v ∷ ws) = arguments_read (verb_said v) v ws
 
 -- words that are lent, as texts
 abbrev pub texts : List (Bor (List ℕ)) → List (List ℕ)

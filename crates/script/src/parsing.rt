@@ -1,6 +1,5 @@
 // From the words of a line to a command.
-ghost use Rattle.script.specs.Commands.{byte_said, command_read, heard, numbered, texts, trial_of};
-ghost use Rattle.script.specs.Verbs.{verb_read};
+ghost use Rattle.script.specs.Commands.{byte_said, command_read, heard, objected, texts, trial_of, verb_said};
 ghost use Rattle.std.specs.Prelude.{◌≡◌};
 
 use crate::command::Command;
@@ -20,28 +19,29 @@ enum Verb {
     Help,
 }
 
-fn verb_of(word: &str) -> Option<Verb>
-    ensures { result ≡ verb_read word.now }
-{
-    match word {
-        "parcel" => Some(Verb::Parcel),
-        "save" => Some(Verb::Save),
-        "check" => Some(Verb::Check),
-        "lines" => Some(Verb::Lines),
-        "trial" => Some(Verb::Trial),
-        "report" => Some(Verb::Report),
-        "help" => Some(Verb::Help),
-        _ => None,
+impl<'a> TryFrom<&'a str> for Verb {
+    type Error = Complaint<'a>;
+
+    ghost try_from_gives = { λ w r. objected r ≡ verb_said w.now };
+
+    fn try_from(word: &'a str) -> Result<Verb, Complaint<'a>> {
+        match word {
+            "parcel" => Ok(Verb::Parcel),
+            "save" => Ok(Verb::Save),
+            "check" => Ok(Verb::Check),
+            "lines" => Ok(Verb::Lines),
+            "trial" => Ok(Verb::Trial),
+            "report" => Ok(Verb::Report),
+            "help" => Ok(Verb::Help),
+            _ => Err(Complaint::Unknown(word)),
+        }
     }
 }
 
-fn byte<'a>(word: &'a str) -> Result<u8, Complaint<'a>>
-    ensures { numbered result ≡ byte_said word.now }
+fn byte(word: &str) -> Result<u8, Complaint<'_>>
+    ensures { objected result ≡ byte_said word.now }
 {
-    match byte_of(word) {
-        Some(b) => Ok(b),
-        None => Err(Complaint::NotByte(word)),
-    }
+    byte_of(word).ok_or(Complaint::NotByte(word))
 }
 
 fn trial<'a>(
@@ -68,10 +68,7 @@ pub fn parse<'a>(words: &[&'a str]) -> Result<Command<'a>, Complaint<'a>>
     let [word, rest @ ..] = words else {
         return Err(Complaint::Unknown(""));
     };
-    let Some(verb) = verb_of(word) else {
-        return Err(Complaint::Unknown(word));
-    };
-    match (verb, rest) {
+    match (Verb::try_from(*word)?, rest) {
         (Verb::Parcel, [file]) => Ok(Command::Parcel(file)),
         (Verb::Save, [file]) => Ok(Command::Save(file)),
         (Verb::Check, []) => Ok(Command::Check),

@@ -13,7 +13,7 @@ pub enum Reply {
     Refused(Refusal),
 }
 
-// The reason in words.
+// The reason in words. No Display: `Refusal` is a type of parcel, where that would have to stand.
 fn reason(refusal: Refusal) -> &'static str
     ensures { result.now ≡ reason_of refusal }
 {

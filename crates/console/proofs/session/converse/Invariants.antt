@@ -1,6 +1,6 @@
-use Rattle.console.specs.Desks.{Agrees}
+use Rattle.journal.specs.Journals.{Remembers}
 use Rattle.console.proofs.session.converse.Given as goal
 
--- the flag and the journal agree after each line, if they did before the first
+-- what was wrong before the first line is still counted
 abbrev pub invariant-loop : goal.invariant-loop
-invariant-loop g l = Agrees l.initial.desk.journal l.initial.desk.failed → Agrees l.desk.journal l.desk.failed
+invariant-loop g l = Remembers l.initial.desk.journal l.desk.journal
