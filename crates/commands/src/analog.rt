@@ -2,13 +2,11 @@
 ghost use Rattle.commands.specs.Codes.{analog_of};
 ghost use Rattle.commands.specs.Properties.{analog_name, analog_operands, requirement_of};
 ghost use Rattle.commands.specs.declared.command.Analog.TheVariants.{Nop};
-ghost use Rattle.std.specs.Prelude.{◌≡◌};
+ghost use Rattle.std.specs.Prelude.{◌≡◌, refl};
 
 use crate::command::SourceKind::{Bit, Reading};
 use crate::command::{Analog, Command, Operands, Requirement};
-use crate::settings::{
-    DELAY_NAMES, DIVISORS, FACTOR_NAMES, FACTORS, INTEGRATOR_NAMES, RATE_NAMES, RATES,
-};
+use crate::settings::{DIVISORS, FACTOR_NAMES, FACTORS, RATES, divisor_names, rate_name};
 
 impl Command for Analog {
     ghost decoded = { analog_of };
@@ -18,6 +16,8 @@ impl Command for Analog {
     ghost printed = { analog_name };
 
     ghost sources = { analog_operands };
+
+    ghost idles = { refl };
 
     fn decode(code: u8) -> Option<Self> {
         Some(match code {
@@ -86,9 +86,9 @@ impl Command for Analog {
             Analog::Fix => "FIX",
             Analog::Flx => "FLX",
             Analog::Scale(factor) => FACTOR_NAMES[factor as usize],
-            Analog::LimitRate(rate) => RATE_NAMES[rate as usize],
-            Analog::Integrate(divisor) => INTEGRATOR_NAMES[divisor as usize],
-            Analog::Delay(divisor) => DELAY_NAMES[divisor as usize],
+            Analog::LimitRate(rate) => rate_name(rate),
+            Analog::Integrate(divisor) => divisor_names(divisor).0,
+            Analog::Delay(divisor) => divisor_names(divisor).1,
         }
     }
 

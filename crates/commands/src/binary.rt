@@ -3,6 +3,8 @@ ghost use Rattle.commands.specs.Codes.{binary_of};
 ghost use Rattle.commands.specs.Properties.{binary_name, binary_operands};
 ghost use Rattle.commands.specs.declared.command.Binary.TheVariants.{Nop};
 
+ghost use Rattle.std.specs.Prelude.{refl};
+
 use crate::command::SourceKind::{Bit, Reading};
 use crate::command::{Binary, Command, Operands};
 
@@ -14,6 +16,8 @@ impl Command for Binary {
     ghost printed = { binary_name };
 
     ghost sources = { binary_operands };
+
+    ghost idles = { refl };
 
     fn decode(code: u8) -> Option<Self> {
         Some(match code {

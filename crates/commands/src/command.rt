@@ -1,4 +1,5 @@
 // The commands, named as they are printed; `Analog` carries the setting that its code stands for.
+ghost use Rattle.commands.specs.declared.command.Operands.TheVariants.{Unused};
 ghost use Rattle.commands.specs.declared.command.Operands.{Operands};
 ghost use Rattle.std.specs.Prelude.{◌≡◌, ℕ, List, Option};
 
@@ -115,4 +116,7 @@ pub trait Command: Copy {
     // What stands in the two source bytes.
     fn operands(self) -> Operands
         ensures { result ≡ sources self };
+
+    // NOP uses neither of them.
+    ghost idles: { sources idle ≡ Unused };
 }

@@ -1,4 +1,7 @@
 // The settings in the order of their codes, and the names of the commands that carry them.
+ghost use Rattle.commands.specs.Properties.{delay_name, integrator_name, rate_name};
+ghost use Rattle.std.specs.Prelude.{◌≡◌};
+
 use readings::settings::{Divisor, Factor, Rate};
 
 // from code 58H on
@@ -55,15 +58,38 @@ pub(crate) const FACTOR_NAMES: [&str; 16] = [
     "K40", "K50", "KHU",
 ];
 
-// the names of rate limiters, in the order of the rates
-pub(crate) const RATE_NAMES: [&str; 12] = [
-    "RL1", "RL2", "RL3", "RL4", "RL5", "RL6", "RL7", "RL8", "RL9", "RLA", "RLB", "RLC",
-];
+pub(crate) fn rate_name(rate: Rate) -> &'static str
+    ensures { result.now ≡ rate_name rate }
+{
+    match rate {
+        Rate::T2 => "RL1",
+        Rate::T4 => "RL2",
+        Rate::T8 => "RL3",
+        Rate::T16 => "RL4",
+        Rate::T50 => "RL5",
+        Rate::T100 => "RL6",
+        Rate::T200 => "RL7",
+        Rate::T400 => "RL8",
+        Rate::T1000 => "RL9",
+        Rate::T2000 => "RLA",
+        Rate::T4000 => "RLB",
+        Rate::T8000 => "RLC",
+    }
+}
 
-// the names of integrators, in the order of the divisors
-pub(crate) const INTEGRATOR_NAMES: [&str; 8] = [
-    "IG1", "IG2", "IG3", "IG4", "IG5", "IG6", "IG7", "IG8",
-];
-
-// the names of delays, in the order of the divisors
-pub(crate) const DELAY_NAMES: [&str; 8] = ["VZ1", "VZ2", "VZ3", "VZ4", "VZ5", "VZ6", "VZ7", "VZ8"];
+// The names of the integrator and of the delay that divide by it.
+pub(crate) fn divisor_names(divisor: Divisor) -> (&'static str, &'static str)
+    ensures integrator { result.0.now ≡ integrator_name divisor }
+    ensures delay { result.1.now ≡ delay_name divisor }
+{
+    match divisor {
+        Divisor::D10 => ("IG1", "VZ1"),
+        Divisor::D40 => ("IG2", "VZ2"),
+        Divisor::D100 => ("IG3", "VZ3"),
+        Divisor::D250 => ("IG4", "VZ4"),
+        Divisor::D1200 => ("IG5", "VZ5"),
+        Divisor::D4800 => ("IG6", "VZ6"),
+        Divisor::D12000 => ("IG7", "VZ7"),
+        Divisor::D30000 => ("IG8", "VZ8"),
+    }
+}

@@ -1,7 +1,6 @@
 pub mod DiagramLaws
 pub mod UniqueLaws
 pub mod OrderLaws
-pub mod Fills
 pub mod SoundLaws
 pub mod WorkLaws
 pub mod SampleLaws

@@ -5,9 +5,8 @@ use Rattle.commands.specs.declared.command.Analog.{Analog}
 use Rattle.commands.specs.declared.command.Analog.TheVariants as an
 use Rattle.commands.specs.declared.command.Binary.{Binary}
 use Rattle.commands.specs.declared.command.Binary.TheVariants as bit
-use Rattle.lines.specs.Kinds.{analog_kinds, binary_kinds}
-use Rattle.parcel.specs.declared.configuration.AnalogLine.{AnalogLine}
-use Rattle.parcel.specs.declared.configuration.BinaryLine.{BinaryLine}
+use Rattle.commands.specs.Properties.{analog_operands, binary_operands}
+use Rattle.parcel.specs.declared.line.Line as row
 use Rattle.parcel.specs.declared.configuration.Configuration.{Configuration}
 use Rattle.lines.specs.declared.source.Source.{Source}
 use Rattle.lines.specs.declared.source.Source.TheVariants.{Fixed, Line, Input, Switch}
@@ -53,13 +52,13 @@ module _ (c : ℕ → Command) where
 
 -- ---- the command of one line
 
-command_in-analog : (c : Configuration) (n : ℕ) (m : Analog) (a b : ℕ) → 0x40 ≤ n → n < 256 → AnalogIs c n m a b → command_in c n ≡ analog_view c.table m (sources_of (analog_kinds m) a b)
+command_in-analog : (c : Configuration) (n : ℕ) (m : Analog) (a b : ℕ) → 0x40 ≤ n → n < 256 → AnalogIs c n m a b → command_in c n ≡ analog_view c.table m (sources_of (analog_operands m) a b)
 command_in-analog c n m a b l h e =
-    cond-true (ltb n 256) _ _ (lt-ltb n 256 h) ∙ cond-false (ltb n 0x40) _ _ (le-ltb n 0x40 l) ∙ ap (λ (w : AnalogLine). analog_command c.table (analog_work w)) e
+    cond-true (ltb n 256) _ _ (lt-ltb n 256 h) ∙ cond-false (ltb n 0x40) _ _ (le-ltb n 0x40 l) ∙ ap (λ (w : row.Line Analog). analog_command c.table (analog_work w)) e
 
-command_in-binary : (c : Configuration) (n : ℕ) (m : Binary) (a b : ℕ) → n < 0x40 → BinaryIs c n m a b → command_in c n ≡ binary_view m (sources_of (binary_kinds m) a b)
+command_in-binary : (c : Configuration) (n : ℕ) (m : Binary) (a b : ℕ) → n < 0x40 → BinaryIs c n m a b → command_in c n ≡ binary_view m (sources_of (binary_operands m) a b)
 command_in-binary c n m a b h e =
-    cond-true (ltb n 256) _ _ (lt-ltb n 256 (omega arith)) ∙ cond-true (ltb n 0x40) _ _ (lt-ltb n 0x40 h) ∙ ap (λ (w : BinaryLine). binary_command (binary_work w)) e
+    cond-true (ltb n 256) _ _ (lt-ltb n 256 (omega arith)) ∙ cond-true (ltb n 0x40) _ _ (lt-ltb n 0x40 h) ∙ ap (λ (w : row.Line Binary). binary_command (binary_work w)) e
 
 -- ---- the samples
 

@@ -3,7 +3,6 @@ pub mod Order
 pub mod Diagram
 pub mod Facts
 pub mod Sources
-pub mod Kinds
 pub mod Programs
 pub mod Commands
 pub mod Board

@@ -1,5 +1,7 @@
 -- What the addresses of sources mean.
 use Rattle.std.specs.Prelude.{ℕ, ◌-◌, cond, pos, ◌==◌, nat_le, nat_lt}
+use Rattle.commands.specs.declared.command.SourceKind.{SourceKind}
+use Rattle.commands.specs.declared.command.SourceKind.TheVariants.{Reading, Bit}
 use Rattle.lines.specs.declared.source.Source.{Source}
 use Rattle.lines.specs.declared.source.Source.TheVariants.{Fixed, Line, Input, Switch}
 
@@ -17,3 +19,8 @@ bit_source a =
     (cond (a == 0xA0) (Switch 0)
     (cond (nat_le 0xF8 a) (Switch (a - 0xF7))
     (cond (a == 0xBD) (Fixed (pos 1)) (Fixed (pos 0)))))
+
+-- by what the source is
+abbrev pub source_of : SourceKind → ℕ → Source
+source_of Reading a = reading_source a
+source_of Bit a = bit_source a

@@ -2,7 +2,6 @@
 #![tactic(auto)]
 
 pub mod facts;
-mod kinds;
 pub mod program;
 pub mod resolving;
 pub mod source;

@@ -13,25 +13,18 @@ pub struct Sources {
     pub b: Source,
 }
 
-// An analog line. FIX and FLX have their constant as the source a.
+// A line of one side. FIX and FLX have their constant as the source a.
 #[derive(Clone, Copy)]
-pub struct AnalogWork {
-    pub command: Analog,
-    pub sources: Sources,
-}
-
-// A binary line.
-#[derive(Clone, Copy)]
-pub struct BinaryWork {
-    pub command: Binary,
+pub struct Work<C> {
+    pub command: C,
     pub sources: Sources,
 }
 
 // All lines as they are worked, and the table. Every constant in it is a reading.
 #[derive(Clone, Copy)]
 pub struct Program {
-    pub binary: [BinaryWork; 64],
-    pub analog: [AnalogWork; 192],
+    pub binary: [Work<Binary>; 64],
+    pub analog: [Work<Analog>; 192],
     pub table: Option<[Word; 17]>,
     ghost binary_sound: { (k : ℕ) → SoundSources (slice_index_or binary k idle_binary).sources },
     ghost analog_sound: { (k : ℕ) → SoundSources (slice_index_or analog k idle_analog).sources },

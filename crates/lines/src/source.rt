@@ -1,6 +1,8 @@
 // What the two source bytes of a line name.
-ghost use Rattle.lines.specs.Sources.{bit_source, reading_source};
+ghost use Rattle.lines.specs.Sources.{bit_source, reading_source, source_of};
 ghost use Rattle.std.specs.Prelude.{◌≡◌};
+
+use commands::command::SourceKind;
 
 // A line by its address, an input by its place from 0, a switch bit by its number, or a number that stays.
 #[derive(Clone, Copy, PartialEq, Eq, Debug)]
@@ -12,8 +14,18 @@ pub enum Source {
 }
 
 impl Source {
+    // What an address names, by what the source is.
+    pub(crate) fn of(kind: SourceKind, address: u8) -> Source
+        ensures { result ≡ source_of kind address }
+    {
+        match kind {
+            SourceKind::Reading => Source::reading(address),
+            SourceKind::Bit => Source::bit(address),
+        }
+    }
+
     // An address as an analog source.
-    pub(crate) fn reading(address: u8) -> Source
+    fn reading(address: u8) -> Source
         ensures { result ≡ reading_source address }
     {
         match address {
@@ -25,7 +37,7 @@ impl Source {
     }
 
     // An address as a bit source.
-    pub(crate) fn bit(address: u8) -> Source
+    fn bit(address: u8) -> Source
         ensures { result ≡ bit_source address }
     {
         match address {

@@ -2,7 +2,7 @@
 ghost use Rattle.std.specs.Prelude.{◌≡◌, ℕ, true, ℤ, pos, is_some, None};
 ghost use Rattle.lines.specs.Commands.{analog_view, as_bit, as_number, binary_view, divides_by, nearest, resulting, tabled};
 
-use crate::program::{AnalogWork, BinaryWork};
+use crate::program::Work;
 use arithmetic::operate::operate;
 use arithmetic::operation::Operation;
 use arithmetic::switches::{Switch, select};
@@ -19,7 +19,7 @@ use timing::ramp::limit_rate;
 fn reading(number: i16) -> Reading
     ensures { result.value ≡ nearest number }
 {
-    Reading::nearest(number as i32)
+    Reading::nearest(i32::from(number))
 }
 
 // A bit that is given as the number 0 or 1.
@@ -42,7 +42,7 @@ fn look_up(table: &Option<[Word; 17]>, a: Reading) -> Reading
 // The reading that an analog line takes in this phase: a and b are what stands at its sources, own what it holds.
 // An integrator or a delay, which keeps a remainder besides, is worked by `integrate` and `delay`, and holds here.
 pub fn work_analog(
-    work: AnalogWork,
+    work: Work<Analog>,
     table: &Option<[Word; 17]>,
     phase: Phase,
     a: i16,
@@ -86,7 +86,7 @@ pub fn work_analog(
 }
 
 // A binary line: a and b are what stands at its sources, a bit as 0 or 1, and own is the bit that it holds.
-pub fn work_binary(work: BinaryWork, a: i16, b: i16, own: bool) -> bool
+pub fn work_binary(work: Work<Binary>, a: i16, b: i16, own: bool) -> bool
     ensures { (phase : ℕ) → as_number result ≡ (resulting (binary_view work.command work.sources) phase (nearest a) (nearest b) (record { value = as_number own; remainder = pos 0 })).value }
 {
     match work.command {

@@ -8,7 +8,7 @@ use Rattle.std.proofs.lemmas.Bool.{cases_lt, cond-true, cond-false, lt-ltb, le-l
 use Rattle.commands.specs.declared.command.Analog.{Analog}
 use Rattle.commands.specs.declared.command.Binary.{Binary}
 use Rattle.commands.specs.declared.command.Binary.TheVariants as bit
-use Rattle.lines.specs.declared.program.AnalogWork.{AnalogWork}
+use Rattle.lines.specs.declared.program.Work.{Work}
 use Rattle.lines.specs.declared.program.Program.{Program}
 use Rattle.lines.specs.declared.program.Sources.{Sources}
 use Rattle.lines.specs.View.{holds, Held}
@@ -30,7 +30,7 @@ use Rattle.machine.proofs.PlaceLaws.{by_line, command_analog, command_binary, li
 sound_blank : (c : Analog) → Sound c blank
 sound_blank c = record { reading = zero_in; remainder = keeps_zero (divides_by c) }
 
-pub all_blank : (works : List AnalogWork) (n : ℕ) → AllSound works (replicate n blank)
+pub all_blank : (works : List (Work Analog)) (n : ℕ) → AllSound works (replicate n blank)
 all_blank works n k = subst (Sound (get_or works k idle_analog).command) (sym (slice_index_or-all n k blank)) (sound_blank _)
 
 pub fresh_lines : lines_of (record { analog = replicate 192 blank; bits = replicate 64 false }) ≡ (λ k. analog_held blank)
@@ -59,7 +59,7 @@ lines_cleared v =
     lines_changed v (map without_remainder v.analog) (λ k x. record { value = x.value; remainder = pos 0 }) (λ k b h. refl)
     (λ i. ap analog_held (get_or-map without_remainder v.analog i blank))
 
-pub cleared_sound : (old new : List AnalogWork) (vs : List AnalogValue) → AllSound old vs → AllSound new (map without_remainder vs)
+pub cleared_sound : (old new : List (Work Analog)) (vs : List AnalogValue) → AllSound old vs → AllSound new (map without_remainder vs)
 cleared_sound old new vs h k =
     let c = (get_or new k idle_analog).command in
     subst (Sound c) (sym (get_or-map without_remainder vs k blank)) (record { reading = (h k).reading; remainder = keeps_zero (divides_by c) })
@@ -99,7 +99,7 @@ lines_restored p v new l m h =
     (cases_lt i 192))
 
 -- past the end of both arrays stands a value that is sound of any line
-pub restored_sound : (works : List AnalogWork) (old new : List AnalogValue) → length new ≡ 192 → ((k : ℕ) → k < 192 → IsRestored (get_or works k idle_analog) (get_or old k blank) (get_or new k blank)) → AllSound works new
+pub restored_sound : (works : List (Work Analog)) (old new : List AnalogValue) → length new ≡ 192 → ((k : ℕ) → k < 192 → IsRestored (get_or works k idle_analog) (get_or old k blank) (get_or new k blank)) → AllSound works new
 unfolding IsRestored
 restored_sound works old new l h k =
     let c = (get_or works k idle_analog).command in

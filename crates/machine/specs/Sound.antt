@@ -2,7 +2,7 @@
 use Rattle.std.specs.Prelude.{ℕ, List, slice_index_or}
 use Rattle.readings.specs.Range.{InRange}
 use Rattle.commands.specs.declared.command.Analog.{Analog}
-use Rattle.lines.specs.declared.program.AnalogWork.{AnalogWork}
+use Rattle.lines.specs.declared.program.Work.{Work}
 use Rattle.lines.specs.Programs.{idle_analog}
 use Rattle.lines.specs.Commands.{Keeps, divides_by}
 use Rattle.machine.specs.declared.values.AnalogValue.{AnalogValue}
@@ -14,5 +14,5 @@ pub record Sound (command : Analog) (v : AnalogValue) : Type 0 where
   pub remainder : Keeps (divides_by command) v.remainder
 
 -- so for each place
-abbrev pub AllSound : List AnalogWork → List AnalogValue → Type 0
+abbrev pub AllSound : List (Work Analog) → List AnalogValue → Type 0
 AllSound works vs = (k : ℕ) → Sound (slice_index_or works k idle_analog).command (slice_index_or vs k blank)

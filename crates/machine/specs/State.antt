@@ -2,7 +2,8 @@
 use Rattle.std.specs.Prelude.{◌≡◌, ℕ, Bool, true, false, cond, ◌&&◌, List, ℤ, pos, negsuc, Some, None, Ok, Err, Option, Result, int_le}
 use Rattle.lines.specs.View.{Command, holds, gives, remembers, Held, nothing}
 use Rattle.lines.specs.Order.{descending}
-use Rattle.lines.specs.declared.program.AnalogWork.{AnalogWork}
+use Rattle.commands.specs.declared.command.Analog.{Analog}
+use Rattle.lines.specs.declared.program.Work.{Work}
 use Rattle.lines.specs.Board.{analog_command, command_of}
 use Rattle.machine.specs.declared.state.Machine.{Machine}
 use Rattle.machine.specs.declared.state.Mode.{Mode}
@@ -110,7 +111,7 @@ defaulted (gives f a b) x = x
 defaulted (remembers f a b) x = x
 
 -- an analog line's value after a recall, with any table; it stays sound
-unfoldable pub IsRestored : AnalogWork → (old new : AnalogValue) → Type 0
+unfoldable pub IsRestored : Work Analog → (old new : AnalogValue) → Type 0
 IsRestored w old new = ((t : Option (List Word)) → analog_held new ≡ defaulted (analog_command t w) (analog_held old)) × Sound w.command new
 
 abbrev pub recalled : State → State

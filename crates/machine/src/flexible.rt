@@ -11,7 +11,7 @@ ghost use Rattle.readings.specs.declared.word.Word.{Word};
 use crate::state::Machine;
 use crate::values::AnalogValue;
 use commands::command::Analog;
-use lines::program::{AnalogWork, Program};
+use lines::program::{Program, Work};
 use lines::source::Source;
 use std::array;
 
@@ -25,7 +25,7 @@ fn constant(source: Source) -> i16
 }
 
 // The default of an FLX line; no other line has one.
-fn default_of(work: AnalogWork) -> Option<i16>
+fn default_of(work: Work<Analog>) -> Option<i16>
     ensures value { (t : Option (List Word)) → result ≡ default_in (analog_command t work) }
     ensures constant { IfSome result (λ z. z ≡ constant_in work.sources.a) }
 {
@@ -36,7 +36,7 @@ fn default_of(work: AnalogWork) -> Option<i16>
 }
 
 // What a line holds after a recall.
-fn restore(work: AnalogWork, own: AnalogValue) -> AnalogValue
+fn restore(work: Work<Analog>, own: AnalogValue) -> AnalogValue
     requires own { Sound work.command own }
     requires constant { InRange (constant_in work.sources.a) }
     ensures { IsRestored work own result }

@@ -7,7 +7,7 @@ ghost use Rattle.readings.specs.Range.{InRange};
 
 use crate::values::AnalogValue;
 use commands::command::Analog;
-use lines::program::AnalogWork;
+use lines::program::Work;
 use lines::work::work_analog;
 use readings::reading::Reading;
 use readings::settings::Divisor;
@@ -46,7 +46,7 @@ fn kept(step: Step) -> AnalogValue
 
 // What an analog line holds once it is worked: a and b are what stands at its sources, own what it holds.
 pub(crate) fn worked(
-    work: AnalogWork,
+    work: Work<Analog>,
     table: &Option<[Word; 17]>,
     phase: Phase,
     a: i16,

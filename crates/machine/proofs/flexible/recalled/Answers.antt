@@ -11,4 +11,4 @@ returns c =
     let old = c.args.analog.now in
     let all = c.requires in
     let constants = p.analog_sound in
-    from_fn_each _ _ (λ k. IsRestored (get_or p.analog k idle_analog) (get_or old k blank)) blank c.from_fn.result 192 (λ k lt r q called. (λ j. (called.met.1.0 j, called.met.1.1 j), search (rules, all, constants))) c.from_fn.ensures.items
+    from_fn_each _ (λ k. IsRestored (get_or p.analog k idle_analog) (get_or old k blank)) _ blank c.from_fn.result 192 (λ k lt r q called. (λ j. (called.met.1.0 j, called.met.1.1 j), search (rules, all, constants))) c.from_fn.ensures.items

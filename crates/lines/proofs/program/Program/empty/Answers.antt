@@ -1,18 +1,20 @@
-use Rattle.std.proofs.Common.{rules}
-use Rattle.lines.specs.declared.kinds.Kinds.TheVariants.{Unused}
-use Rattle.lines.specs.declared.program.AnalogWork.{AnalogWork}
-use Rattle.lines.specs.declared.program.BinaryWork.{BinaryWork}
+use Rattle.std.proofs.Common.{sym, ap, subst}
+use Rattle.commands.specs.declared.command.Analog.{Analog}
+use Rattle.commands.specs.declared.command.Binary.{Binary}
+use Rattle.lines.specs.declared.program.Work.{Work}
 use Rattle.lines.specs.Programs.{SoundSources, idle_analog, idle_binary}
-use Rattle.lines.proofs.SoundLaws.{sound_sources, filled, no_commands}
+use Rattle.lines.proofs.SoundLaws.{filled, no_commands, zero_in}
 use Rattle.lines.proofs.program.Program.empty.Goals as goal
 
 pub invariant_of-result : goal.invariant_of-result
 invariant_of-result c =
-    let unused = sound_sources Unused 0 0 in
+    let B = λ (w : Work Binary). SoundSources w.sources in
+    let A = λ (w : Work Analog). SoundSources w.sources in
     record {
-      binary_sound = λ k. filled (λ (w : BinaryWork). SoundSources w.sources) 64 k _ idle_binary unused unused;
-      analog_sound = λ k. filled (λ (w : AnalogWork). SoundSources w.sources) 192 k _ idle_analog unused unused;
+      binary_sound = λ k. filled B 64 k c.idle.result idle_binary (subst B (sym c.idle.ensures) (zero_in, zero_in)) (zero_in, zero_in);
+      analog_sound = λ k. filled A 192 k c.idle-2.result idle_analog (subst A (sym c.idle-2.ensures) (zero_in, zero_in)) (zero_in, zero_in);
     }
 
 pub returns : goal.returns
-returns c = no_commands _ _ (search rules) (search rules)
+returns c =
+    no_commands c.idle.result c.idle-2.result (ap (λ (w : Work Binary). w.command) c.idle.ensures) (ap (λ (w : Work Analog). w.command) c.idle-2.ensures)

@@ -9,5 +9,5 @@ pub invariant_of-result : goal.invariant_of-result
 invariant_of-result c =
     let xs = c.args.inputs.now in
     let h = clamped lowest highest in
-    let same = map_is _ _ h (pos 0) (pos 0) xs c.map.result 8 c.told-inputs (λ x r q called. search rules) c.map.ensures.items in
+    let same = map_is _ h _ (pos 0) (pos 0) xs c.map.result 8 c.told-inputs (λ x r q called. search rules) c.map.ensures.items in
     record { range = λ k. subst InRange (sym (ap (λ zs. get_or zs k (pos 0)) same ∙ get_or-map h xs k (pos 0))) (clamped_in (get_or xs k (pos 0))) }

@@ -13,7 +13,7 @@ invariant_of-self c =
     let m = c.args.self.now in
     let vs = m.values.analog in
     let long : length vs ≡ 192 = search rules in
-    let same = map_is _ _ without_remainder blank blank vs c.map-self.result 192 long (λ x r q called. search rules) c.map-self.ensures.items in
+    let same = map_is _ without_remainder _ blank blank vs c.map-self.result 192 long (λ x r q called. search rules) c.map-self.ensures.items in
     record { sound = subst (AllSound c.of-self.result.analog) (sym same) (cleared_sound m.program.analog c.of-self.result.analog vs m.sound) }
 
 pub returns-clause-state : goal.returns-clause-state
@@ -21,7 +21,7 @@ returns-clause-state c =
     let m = c.args.self.now in
     let vs = m.values.analog in
     let long : length vs ≡ 192 = search rules in
-    let same = map_is _ _ without_remainder blank blank vs c.map-self.result 192 long (λ x r q called. search rules) c.map-self.ensures.items in
+    let same = map_is _ without_remainder _ blank blank vs c.map-self.result 192 long (λ x r q called. search rules) c.map-self.ensures.items in
     let command = c.of-self.ensures ∙ ap command_in c.in_ok-configuration.ensures.holds in
     let lines = (λ j. lines_of (record { analog = same j; bits = m.values.bits })) ∙ lines_cleared m.values in
     λ j. record { mode = c.loaded_mode-self.ensures j; order = descending; command = command j; lines = lines j; phase = m.phase.number }
