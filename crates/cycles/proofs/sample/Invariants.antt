@@ -1,0 +1,11 @@
+use Rattle.std.proofs.Common.{◌≡◌, ℕ, ◌<◌, pos, length, get_or}
+use Rattle.cycles.specs.Sums.{after}
+use Rattle.cycles.proofs.SumLaws.{input_in}
+use Rattle.cycles.proofs.sample.Given as goal
+
+-- so many inputs are drawn, and stand in their places
+abbrev pub invariant-loop-place : goal.invariant-loop-place
+invariant-loop-place l =
+    (l.from.0 ≡ after l.place l.initial.from.0)
+    × (length l.inputs ≡ 8)
+    × ((k : ℕ) → k < l.place → get_or l.inputs k (pos 0) ≡ input_in l.initial.from.0 k)
