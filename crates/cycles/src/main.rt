@@ -42,9 +42,8 @@ fn sample(from: &mut Generator) -> Sample
     ensures value { brought result ≡ sample_after from.old.0 }
 {
     let mut inputs = [0; 8];
-    // By index: what `iter_mut` lends of signed numbers did not prove.
-    for place in 0..8 {
-        inputs[place] = input(from);
+    for place in inputs.iter_mut() {
+        *place = input(from);
     }
     Sample::new(&inputs, draw(from) % 512)
 }

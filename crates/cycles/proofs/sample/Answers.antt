@@ -10,14 +10,14 @@ loop-place-init c = (refl, refl, λ k h. absurd (omega arith))
 
 pub loop-place-preserved : goal.loop-place-preserved
 loop-place-preserved c =
-    let states = ap next c.loop-place.invariant.0 ∙ after_more c.loop-place.place c.args.from.now.0 in
+    let states = ap next c.loop-place.invariant.0 ∙ after_more c.loop-place.place-index c.args.from.now.0 in
     let value = c.input.ensures.value ∙ ap (λ s. input_of (drawn s)) states in
-    let kept = ap (λ z. to_z w16 (of_z w16 z)) value ∙ input_kept c.args.from.now.0 c.loop-place.place in
+    let kept = ap (λ z. to_z w16 (of_z w16 z)) value ∙ input_kept c.args.from.now.0 c.loop-place.place-index in
     let f : ℕ → ℤ = input_in c.args.from.now.0 in (
       c.input.ensures.state ∙ states,
       simp length-set c.loop-place.invariant.1,
       rw kept
-          (fill_by_more f c.loop-place.inputs c.loop-place.place (pos 0) (omega (arith, c.loop-place.invariant.1))
+          (fill_by_more f c.loop-place.place-items c.loop-place.place-index (pos 0) (omega (arith, c.loop-place.invariant.1))
           c.loop-place.invariant.2),
     )
 
@@ -33,5 +33,5 @@ returns-clause-value c =
     let last = ap next c.loop-place.invariant.0 ∙ (ap (λ n. next (after n s)) (omega arith) ∙ after_more 8 s) in
     sym
     (sample_made s _ _
-    (inputs_held s c.loop-place.inputs _ (omega arith) (λ k h. c.loop-place.invariant.2 k (omega arith)) c.new.ensures.inputs)
+    (inputs_held s c.loop-place.place-items _ (omega arith) (λ k h. c.loop-place.invariant.2 k (omega arith)) c.new.ensures.inputs)
     (c.new.ensures.bits ∙ ap (λ n. n % 512) (c.draw.ensures.value ∙ ap drawn last)))

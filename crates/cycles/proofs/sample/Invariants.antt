@@ -6,6 +6,6 @@ use Rattle.cycles.proofs.sample.Given as goal
 -- so many inputs are drawn, and stand in their places
 abbrev pub invariant-loop-place : goal.invariant-loop-place
 invariant-loop-place l =
-    (l.from.0 ≡ after l.place l.initial.from.0)
-    × (length l.inputs ≡ 8)
-    × ((k : ℕ) → k < l.place → get_or l.inputs k (pos 0) ≡ input_in l.initial.from.0 k)
+    (l.from.0 ≡ after l.place-index l.initial.from.0)
+    × (length l.place-items ≡ 8)
+    × ((k : ℕ) → k < l.place-index → get_or l.place-items k (pos 0) ≡ input_in l.initial.from.0 k)
