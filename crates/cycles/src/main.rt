@@ -19,33 +19,35 @@ use std::{env, fs};
 #[derive(Drop)]
 struct Generator(u32);
 
-// The next number: the upper half of a linear congruence.
-fn draw(from: &mut Generator) -> u16
-    ensures state { from.new.0 ≡ next from.old.0 }
-    ensures value { result ≡ drawn (next from.old.0) }
-{
-    from.0 = from.0.wrapping_mul(1664525).wrapping_add(1013904223);
-    (from.0 / 65536) as u16
-}
-
-// An input from -16000 to 16000.
-fn input(from: &mut Generator) -> i16
-    ensures state { from.new.0 ≡ next from.old.0 }
-    ensures value { result ≡ input_of (drawn (next from.old.0)) }
-{
-    (i32::from(draw(from) % 32001) - 16000) as i16
-}
-
-// Eight inputs, and nine bits.
-fn sample(from: &mut Generator) -> Sample
-    ensures state { from.new.0 ≡ after 9 from.old.0 }
-    ensures value { brought result ≡ sample_after from.old.0 }
-{
-    let mut inputs = [0; 8];
-    for place in inputs.iter_mut() {
-        *place = input(from);
+impl Generator {
+    // The next number: the upper half of a linear congruence.
+    fn draw(&mut self) -> u16
+        ensures state { self.new.0 ≡ next self.old.0 }
+        ensures value { result ≡ drawn (next self.old.0) }
+    {
+        self.0 = self.0.wrapping_mul(1664525).wrapping_add(1013904223);
+        (self.0 / 65536) as u16
     }
-    Sample::new(&inputs, draw(from) % 512)
+
+    // An input from -16000 to 16000.
+    fn input(&mut self) -> i16
+        ensures state { self.new.0 ≡ next self.old.0 }
+        ensures value { result ≡ input_of (drawn (next self.old.0)) }
+    {
+        (i32::from(self.draw() % 32001) - 16000) as i16
+    }
+
+    // Eight inputs, and nine bits.
+    fn sample(&mut self) -> Sample
+        ensures state { self.new.0 ≡ after 9 self.old.0 }
+        ensures value { brought result ≡ sample_after self.old.0 }
+    {
+        let mut inputs = [0; 8];
+        for place in inputs.iter_mut() {
+            *place = self.input();
+        }
+        Sample::new(&inputs, self.draw() % 512)
+    }
 }
 
 // A checksum with one number more.
@@ -96,10 +98,10 @@ fn with_lines(sum: u64, machine: &Machine) -> u64
 fn run(machine: &mut Machine, count: u32) -> u64
     ensures { result ≡ sum_of count (state_of machine.old) }
 {
-    let mut inputs = Generator(0);
+    let mut generator = Generator(0);
     let mut sum = 0;
     for _ in 0..count {
-        machine.cycle(&sample(&mut inputs));
+        machine.cycle(&generator.sample());
         sum = with_outputs(sum, machine.outputs());
     }
     with_lines(sum, machine)

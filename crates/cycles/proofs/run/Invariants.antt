@@ -6,4 +6,4 @@ use Rattle.cycles.proofs.run.Given as goal
 -- so many cycles were run
 abbrev pub invariant-loop : goal.invariant-loop
 invariant-loop l =
-    run_of l.counter (state_of l.initial.machine) ≡ record { machine = state_of l.machine; seed = l.inputs.0; sum = l.sum }
+    run_of l.counter (state_of l.initial.machine) ≡ record { machine = state_of l.machine; seed = l.generator.0; sum = l.sum }
