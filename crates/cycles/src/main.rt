@@ -3,7 +3,11 @@
 //     cycles PARCEL COUNT
 #![tactic(auto)]
 
-ghost use Rattle.std.specs.Prelude.{◌≡◌, ◌+◌, ◌*◌, ◌/◌, ◌%◌, ◌^◌, pos, ◌+ℤ◌};
+ghost use Rattle.cycles.specs.Sums.{after, drawn, input_of, lifted, next, number_at, sample_after, sum_of, with, with_lines, with_outputs};
+ghost use Rattle.machine.specs.Given.{given};
+ghost use Rattle.machine.specs.Lines.{brought};
+ghost use Rattle.machine.specs.State.{state_of};
+ghost use Rattle.std.specs.Prelude.{◌≡◌};
 
 use anyhow::anyhow;
 use machine::outputs::Outputs;
@@ -15,67 +19,89 @@ use std::{env, fs};
 #[derive(Drop)]
 struct Generator(u32);
 
-// The next number: the upper half of a linear congruence.
-fn draw(from: &mut Generator) -> u16
-    ensures state { from.new.0 ≡ (1664525 * from.old.0 + 1013904223) % 2 ^ 32 }
-    ensures value { result ≡ from.new.0 / 65536 }
-{
-    from.0 = from.0.wrapping_mul(1664525).wrapping_add(1013904223);
-    (from.0 / 65536) as u16
-}
-
-// Eight inputs from -16000 to 16000, and nine bits.
-fn sample(from: &mut Generator) -> Sample {
-    let mut inputs = [0i16; 8];
-    for i in 0..8 {
-        inputs[i] = (i32::from(draw(from) % 32001) - 16000) as i16;
+impl Generator {
+    // The next number: the upper half of a linear congruence.
+    fn draw(&mut self) -> u16
+        ensures state { self.new.0 ≡ next self.old.0 }
+        ensures value { result ≡ drawn (next self.old.0) }
+    {
+        self.0 = self.0.wrapping_mul(1664525).wrapping_add(1013904223);
+        (self.0 / 65536) as u16
     }
-    let bits = draw(from) % 512;
-    Sample::new(&inputs, bits)
+
+    // An input from -16000 to 16000.
+    fn input(&mut self) -> i16
+        ensures state { self.new.0 ≡ next self.old.0 }
+        ensures value { result ≡ input_of (drawn (next self.old.0)) }
+    {
+        (i32::from(self.draw() % 32001) - 16000) as i16
+    }
+
+    // Eight inputs, and nine bits.
+    fn sample(&mut self) -> Sample
+        ensures state { self.new.0 ≡ after 9 self.old.0 }
+        ensures value { brought result ≡ sample_after self.old.0 }
+    {
+        let mut inputs = [0; 8];
+        for place in inputs.iter_mut() {
+            *place = self.input();
+        }
+        Sample::new(&inputs, self.draw() % 512)
+    }
 }
 
 // A checksum with one number more.
 fn with(sum: u64, number: u32) -> u64
-    ensures { result ≡ (sum * 31 + number) % 2 ^ 64 }
+    ensures { result ≡ with sum number }
 {
     sum.wrapping_mul(31).wrapping_add(number as u64)
 }
 
 // A number from -32768 on as one from 0 on.
 fn lifted(value: i16) -> u32
-    ensures { pos result ≡ value +ℤ pos 32768 }
+    ensures { result ≡ lifted value }
 {
     (i32::from(value) + 32768) as u32
 }
 
-fn with_outputs(sum: u64, outputs: Outputs) -> u64 {
+fn with_outputs(sum: u64, outputs: Outputs) -> u64
+    ensures { result ≡ with_outputs sum (given outputs) }
+{
     let first = with(sum, lifted(outputs.first.value() as i16));
     let second = with(first, lifted(outputs.second.value() as i16));
     with(second, u32::from(outputs.digital))
 }
 
+// What a line holds: a bit, or a reading.
+fn number_at(machine: &Machine, line: u8) -> u32
+    ensures { result ≡ number_at line ((state_of machine.now).lines line).value }
+{
+    let value = machine.value(line);
+    if line < 0x40 {
+        u32::from(value > 0)
+    } else {
+        lifted(value)
+    }
+}
+
 // What all lines hold, by address.
-fn with_lines(sum: u64, machine: &Machine) -> u64 {
+fn with_lines(sum: u64, machine: &Machine) -> u64
+    ensures { result ≡ with_lines sum (state_of machine.now) 256 }
+{
     let mut sum = sum;
     for line in 0..=255u8 {
-        let value = machine.value(line);
-        sum = with(
-            sum,
-            if line < 0x40 {
-                u32::from(value > 0)
-            } else {
-                lifted(value)
-            },
-        );
+        sum = with(sum, number_at(machine, line));
     }
     sum
 }
 
-fn run(machine: &mut Machine, count: u32) -> u64 {
-    let mut inputs = Generator(0);
+fn run(machine: &mut Machine, count: u32) -> u64
+    ensures { result ≡ sum_of count (state_of machine.old) }
+{
+    let mut generator = Generator(0);
     let mut sum = 0;
     for _ in 0..count {
-        machine.cycle(&sample(&mut inputs));
+        machine.cycle(&generator.sample());
         sum = with_outputs(sum, machine.outputs());
     }
     with_lines(sum, machine)
