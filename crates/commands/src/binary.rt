@@ -2,7 +2,6 @@
 ghost use Rattle.commands.specs.Codes.{binary_of};
 ghost use Rattle.commands.specs.Properties.{binary_name, binary_operands};
 ghost use Rattle.commands.specs.declared.command.Binary.TheVariants.{Nop};
-
 ghost use Rattle.std.specs.Prelude.{refl};
 
 use crate::command::SourceKind::{Bit, Reading};
