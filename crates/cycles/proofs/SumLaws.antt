@@ -5,7 +5,8 @@ use Rattle.std.proofs.lemmas.Int.{ints, clamps, to_z-of_z}
 use Rattle.std.proofs.lemmas.List.FromFn.{fill_by_all}
 use Rattle.readings.specs.Range.{clamped, highest, lowest}
 use Rattle.machine.specs.Lines.{Brought}
-use Rattle.machine.specs.Outputs.{Given, outputs_of}
+use Rattle.machine.specs.Outputs.{outputs_of}
+use Rattle.terminals.specs.Meaning.{OutputValues}
 use Rattle.machine.specs.State.{State, cycled}
 use Rattle.cycles.specs.Sums.{next, after, drawn, input_of, sample_after, with, with_outputs, number_at, with_lines, cycle_more, run_of}
 
@@ -25,7 +26,7 @@ pub run_more : (n : ℕ) (m : State) → run_of (n + 1) m ≡ cycle_more (run_of
 unfolding run_of
 run_more n m = rw add-one refl
 
-pub cycle_added : (n : ℕ) (m now later : State) (seed later_seed sum later_sum : ℕ) (b : Brought) (o : Given) → run_of n m ≡ record { machine = now; seed = seed; sum = sum } → later_seed ≡ after 9 seed → b ≡ sample_after seed → later ≡ cycled b now → o ≡ outputs_of later.lines → later_sum ≡ with_outputs sum o → run_of (n + 1) m ≡ record { machine = later; seed = later_seed; sum = later_sum }
+pub cycle_added : (n : ℕ) (m now later : State) (seed later_seed sum later_sum : ℕ) (b : Brought) (o : OutputValues) → run_of n m ≡ record { machine = now; seed = seed; sum = sum } → later_seed ≡ after 9 seed → b ≡ sample_after seed → later ≡ cycled b now → o ≡ outputs_of later.lines → later_sum ≡ with_outputs sum o → run_of (n + 1) m ≡ record { machine = later; seed = later_seed; sum = later_sum }
 cycle_added n m now later seed later_seed sum later_sum b o e s v l p q =
     run_more n m ∙ (ap cycle_more e ∙ rw q (rw p (rw l (rw v (rw s refl)))))
 

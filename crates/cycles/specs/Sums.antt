@@ -2,8 +2,9 @@
 use Rattle.std.specs.Prelude.{ℕ, zero, suc, ◌+◌, ◌*◌, ◌/◌, ◌%◌, ◌^◌, cond, nat_lt, map, ℤ, pos, negsuc, ◌+ℤ◌, ◌-ℤ◌, int_lt}
 use Rattle.std.specs.List.{range_with_len}
 use Rattle.machine.specs.Lines.{Brought}
-use Rattle.machine.specs.Outputs.{Given, outputs_of}
+use Rattle.machine.specs.Outputs.{outputs_of}
 use Rattle.machine.specs.State.{State, cycled}
+use Rattle.terminals.specs.Meaning.{OutputValues}
 
 -- the generator's next state, by a linear congruence
 abbrev pub next : ℕ → ℕ
@@ -44,7 +45,7 @@ abbrev pub lifted : ℤ → ℕ
 lifted z = natural (z +ℤ pos 32768)
 
 -- a checksum with what the terminals are given
-abbrev pub with_outputs : ℕ → Given → ℕ
+abbrev pub with_outputs : ℕ → OutputValues → ℕ
 with_outputs sum o = with (with (with sum (lifted o.first)) (lifted o.second)) o.digital
 
 -- what a line adds: a bit, or a reading

@@ -4,16 +4,16 @@
 #![tactic(auto)]
 
 ghost use Rattle.cycles.specs.Sums.{after, drawn, input_of, lifted, next, number_at, sample_after, sum_of, with, with_lines, with_outputs};
-ghost use Rattle.machine.specs.Given.{given};
+ghost use Rattle.terminals.specs.Meaning.{asked};
 ghost use Rattle.machine.specs.Lines.{brought};
 ghost use Rattle.machine.specs.State.{state_of};
 ghost use Rattle.std.specs.Prelude.{◌≡◌};
 
 use anyhow::anyhow;
-use machine::outputs::Outputs;
 use machine::sample::Sample;
 use machine::state::Machine;
 use std::{env, fs};
+use terminals::outputs::Signals;
 
 // Made-up numbers, the same on every machine.
 #[derive(Drop)]
@@ -54,7 +54,7 @@ impl Generator {
 fn with(sum: u64, number: u32) -> u64
     ensures { result ≡ with sum number }
 {
-    sum.wrapping_mul(31).wrapping_add(number as u64)
+    sum.wrapping_mul(31).wrapping_add(u64::from(number))
 }
 
 // A number from -32768 on as one from 0 on.
@@ -64,11 +64,11 @@ fn lifted(value: i16) -> u32
     (i32::from(value) + 32768) as u32
 }
 
-fn with_outputs(sum: u64, outputs: Outputs) -> u64
-    ensures { result ≡ with_outputs sum (given outputs) }
+fn with_outputs(sum: u64, outputs: Signals) -> u64
+    ensures { result ≡ with_outputs sum (asked outputs) }
 {
-    let first = with(sum, lifted(outputs.first.value() as i16));
-    let second = with(first, lifted(outputs.second.value() as i16));
+    let first = with(sum, lifted(i16::from(outputs.first)));
+    let second = with(first, lifted(i16::from(outputs.second)));
     with(second, u32::from(outputs.digital))
 }
 

@@ -77,5 +77,5 @@ pub(crate) fn place_of(number: u8) -> Result<usize, NoSuchInput>
     if number < 1 || number > 8 {
         return Err(NoSuchInput);
     }
-    Ok(number as usize - 1)
+    Ok(usize::from(number) - 1)
 }

@@ -100,7 +100,7 @@ impl Journal {
     {
         self.answers = self.answers.plus(answer);
         if let Err(refusal) = answer {
-            let number = refusal.number() as usize;
+            let number = usize::from(refusal.number());
             self.refusals.0[number] = self.refusals.0[number].saturating_add(1);
         }
     }

@@ -18,7 +18,7 @@ const UNUSED: Source = Source::Fixed(0);
 fn constant(word: Word) -> Source
     ensures { result ≡ constant_of word.low word.high }
 {
-    Source::Fixed(word.constant().value() as i16)
+    Source::Fixed(i16::from(word.constant()))
 }
 
 impl Sources {

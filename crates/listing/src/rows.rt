@@ -69,9 +69,9 @@ fn line_entry(heap: Global, configuration: &Configuration, line: u8) -> Result<S
     ensures { IfOk result (λ t. string_bytes t ≡ line_text configuration.now line) }
 {
     if line < 0x40 {
-        return row_of(heap, line, configuration.binary[line as usize]);
+        return row_of(heap, line, configuration.binary[usize::from(line)]);
     }
-    row_of(heap, line, configuration.analog[line as usize - 0x40])
+    row_of(heap, line, configuration.analog[usize::from(line) - 0x40])
 }
 
 fn lines(heap: Global, configuration: &Configuration) -> Result<String, AllocError>
@@ -89,10 +89,10 @@ fn points(heap: Global, words: &[Word; 17]) -> Result<String, AllocError>
     ensures { IfOk result (λ t. string_bytes t ≡ up_to (point_text words.now) 17) }
 {
     let mut text = String::new(heap);
-    for place in 0..17usize {
+    for (place, &word) in words.iter().enumerate() {
         let row = TableRow {
             place: place as u8,
-            word: words[place],
+            word,
         };
         let row = format!(in heap; "{row}\n")?;
         text.push_str(row.as_str())?;

@@ -3,4 +3,3 @@ pub mod Lines
 pub mod Cycle
 pub mod State
 pub mod Outputs
-pub mod Given

@@ -1,13 +1,8 @@
 -- What the output lines give the terminals.
-use Rattle.std.specs.Prelude.{ℕ, ◌+◌, ◌*◌, cond, List, [], ◌∷◌, ℤ}
+use Rattle.std.specs.Prelude.{ℕ, ◌+◌, ◌*◌, cond, List, [], ◌∷◌}
 use Rattle.lines.specs.View.{Held}
 use Rattle.lines.specs.Commands.{as_bit}
-
--- two readings, and thirteen bits as a number, Q00 lowest
-pub record Given : Type 0 where
-  pub first : ℤ
-  pub second : ℤ
-  pub digital : ℕ
+use Rattle.terminals.specs.Meaning.{OutputValues}
 
 -- the lines of Q00, of Q01 to Q04, and of Q05 to Q12
 abbrev pub digital_lines : List ℕ
@@ -20,5 +15,5 @@ packed lines [] = 0
 packed lines (k ∷ ks) = cond (as_bit (lines k).value) 1 0 + 2 * packed lines ks
 
 -- A1 is line 40H and A2 line 41H
-abbrev pub outputs_of : (ℕ → Held) → Given
+abbrev pub outputs_of : (ℕ → Held) → OutputValues
 outputs_of lines = record { first = (lines 0x40).value; second = (lines 0x41).value; digital = packed lines digital_lines }

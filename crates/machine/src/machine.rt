@@ -15,6 +15,7 @@ use crate::values::{AnalogValue, Values};
 use lines::program::Program;
 use parcel::configuration::read;
 use parcel::refusal::Refusal;
+use readings::reading::Reading;
 use timing::phase::Phase;
 
 // Only empty becomes stopped.
@@ -98,7 +99,7 @@ impl Machine {
         let Some(place) = self.flexible_place(line) else {
             return Err(AdjustRefusal::NotFlexible);
         };
-        if number < -31984 || number > 31984 {
+        if number < -Reading::LIMIT || number > Reading::LIMIT {
             return Err(AdjustRefusal::OverRange);
         }
         self.values.analog[place].reading = number as i16;

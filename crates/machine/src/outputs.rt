@@ -1,22 +1,15 @@
 // What the output lines give the terminals.
 ghost use Rattle.std.specs.Prelude.{◌≡◌, ◌<◌, ◌≤◌, if◌then◌else◌};
 ghost use Rattle.lines.specs.Commands.{as_bit};
-ghost use Rattle.machine.specs.Given.{given};
 ghost use Rattle.machine.specs.Lines.{lines_of};
 ghost use Rattle.machine.specs.Outputs.{digital_lines, outputs_of, packed};
 ghost use Rattle.machine.specs.State.{state_of};
+ghost use Rattle.terminals.specs.Meaning.{asked};
 
 use crate::state::Machine;
 use crate::values::Values;
 use readings::reading::Reading;
-
-// Two readings, and the bits Q00 to Q12 as a number, Q00 lowest.
-#[derive(Clone, Copy)]
-pub struct Outputs {
-    pub first: Reading,
-    pub second: Reading,
-    pub digital: u16,
-}
+use terminals::outputs::Signals;
 
 // The lines of Q00, of Q01 to Q04, and of Q05 to Q12.
 const DIGITAL: [u8; 13] = [
@@ -34,6 +27,7 @@ fn digital(values: &Values) -> u16
     ensures value { result ≡ packed (lines_of values.now) digital_lines }
     ensures few { result < 8192 }
 {
+    // By place from the last, since each place bounds the number by a power of two.
     let mut number = 0;
     for place in (0..13).rev() {
         number = bit(values, DIGITAL[place]) + 2 * number;
@@ -43,11 +37,11 @@ fn digital(values: &Values) -> u16
 
 impl Machine {
     // The readings of A1 and A2, and the bits of Q00 to Q12.
-    pub fn outputs(&self) -> Outputs
-        ensures value { given result ≡ outputs_of (state_of self.now).lines }
+    pub fn outputs(&self) -> Signals
+        ensures value { asked result ≡ outputs_of (state_of self.now).lines }
         ensures few { result.digital < 8192 }
     {
-        Outputs {
+        Signals {
             first: Reading::nearest(self.values.analog[0].reading.into()),
             second: Reading::nearest(self.values.analog[1].reading.into()),
             digital: digital(&self.values),

@@ -15,7 +15,7 @@ pub struct Sample {
 fn nearest(value: i16) -> i16
     ensures { result ≡ clamped lowest highest value }
 {
-    Reading::nearest(i32::from(value)).value() as i16
+    i16::from(Reading::nearest(i32::from(value)))
 }
 
 impl Sample {

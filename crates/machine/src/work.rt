@@ -39,7 +39,7 @@ fn kept(step: Step) -> AnalogValue
     ensures remainder { result.remainder ≡ step.remainder.value }
 {
     AnalogValue {
-        reading: step.reading.value() as i16,
+        reading: i16::from(step.reading),
         remainder: step.remainder.value() as i16,
     }
 }
@@ -67,7 +67,7 @@ pub(crate) fn worked(
         )),
         Analog::Delay(d) => kept(delay(reading(a), reading(b), remainder(d, own.remainder))),
         _ => AnalogValue {
-            reading: work_analog(work, table, phase, a, b, own.reading).value() as i16,
+            reading: i16::from(work_analog(work, table, phase, a, b, own.reading)),
             ..own
         },
     }

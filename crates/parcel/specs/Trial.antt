@@ -1,5 +1,5 @@
 -- A trial: one line's three bytes are exchanged, and stay if the parcel is still taken.
-use Rattle.std.specs.Prelude.{ℕ, ◌+◌, ◌<◌, List, slice_index, slice_set}
+use Rattle.std.specs.Prelude.{ℕ, ◌+◌, ◌<◌, List, None, Option, Some, slice_index, slice_set}
 use Rattle.parcel.specs.declared.contents.Directory.{Directory}
 use Rattle.parcel.specs.declared.line.LineBytes.{LineBytes}
 use Rattle.parcel.specs.declared.trial.Places.{Places}
@@ -24,6 +24,11 @@ line_in p at = record { code = slice_index p at.code; sr1 = slice_index p at.sr1
 -- a parcel with others in their places
 abbrev pub with_line : List ℕ → Places → LineBytes → List ℕ
 with_line p at l = slice_set (slice_set (slice_set p at.code l.code) at.sr1 l.sr1) at.sr2 l.sr2
+
+-- a parcel with the old ones back, if there are any to put back
+abbrev pub with_old : List ℕ → Places → Option LineBytes → List ℕ
+with_old p at None = p
+with_old p at (Some l) = with_line p at l
 
 -- the parcel with the new line
 abbrev pub exchanged : List ℕ → (line : ℕ) → LineBytes → List ℕ

@@ -37,7 +37,7 @@ impl Bodies<'_> {
     pub fn line(&self, line: u8) -> LineBytes
         ensures { result ≡ bytes_at self.now.parcel.now self.now.directory line }
     {
-        let line = line as usize;
+        let line = usize::from(line);
         LineBytes {
             code: self.parcel[self.directory.codes + line],
             sr1: self.parcel[self.directory.sr1 + line],

@@ -147,7 +147,7 @@ impl<const N: usize> Contents<N> {
     {
         let mut at = 1 + 3 * N;
         for e in &self.entries {
-            at += e.size as usize;
+            at += usize::from(e.size);
         }
         at
     }
@@ -161,7 +161,7 @@ impl<const N: usize> Contents<N> {
             if e.is(kind) {
                 return at;
             }
-            at += e.size as usize;
+            at += usize::from(e.size);
         }
         at
     }

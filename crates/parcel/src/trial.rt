@@ -1,7 +1,7 @@
 // Trials: one line of a parcel is exchanged, and the old one put back if load would then refuse.
-ghost use Rattle.std.specs.Prelude.{◌≡◌, length, if◌then◌else◌};
+ghost use Rattle.std.specs.Prelude.{◌≡◌, length};
 ghost use Rattle.parcel.specs.Parcel.{asked};
-ghost use Rattle.parcel.specs.Trial.{Inside, exchanged, kept, places_in, tried, with_line};
+ghost use Rattle.parcel.specs.Trial.{Inside, exchanged, kept, places_in, tried, with_line, with_old};
 ghost use Rattle.parcel.specs.Verdicts.{verdict};
 
 use crate::bodies::Bodies;
@@ -22,7 +22,7 @@ fn places_in(bodies: &Bodies, line: u8) -> Places
     ensures place { result ≡ places_in bodies.now.directory line }
     ensures inside { Inside result (length bodies.now.parcel.now) }
 {
-    let at = line as usize;
+    let at = usize::from(line);
     Places {
         code: bodies.directory.codes + at,
         sr1: bodies.directory.sr1 + at,
@@ -39,30 +39,27 @@ fn put(parcel: &mut [u8], at: Places, line: LineBytes)
     parcel[at.sr2] = line.sr2;
 }
 
-// A parcel with one line exchanged. The old line is put back when the exchange ends, unless it was accepted.
+// A parcel with one line exchanged. An old line that is still held when the exchange ends is put back.
 // That the places lie within the parcel stays a clause: a ghost field beside a `&mut` gets no proof where it is dropped.
 struct Exchange<'a> {
     parcel: &'a mut [u8],
     at: Places,
-    old: LineBytes,
-    accepted: bool,
+    old: Option<LineBytes>,
 }
 
 impl Drop for Exchange<'_> {
     fn drop(self)
         requires { Inside self.at (length self.parcel.now) }
-        ensures { self.exit.0.now ≡ (if self.entry.accepted then self.entry.parcel.now else with_line self.entry.parcel.now self.entry.at self.entry.old) }
+        ensures { self.exit.0.now ≡ with_old self.entry.parcel.now self.entry.at self.entry.old }
     {
-        if !self.accepted {
+        if let Some(old) = self.old {
             let at = self.at;
-            let old = self.old;
             put(self.parcel, at, old);
         }
         let Exchange {
             parcel: _,
             at: _,
             old: _,
-            accepted: _,
         } = self;
     }
 }
@@ -88,10 +85,9 @@ pub fn trial(parcel: &mut [u8], line: u8, new: LineBytes) -> Result<(), Refusal>
     let mut exchange = Exchange {
         parcel,
         at,
-        old,
-        accepted: false,
+        old: Some(old),
     };
     ask(exchange.parcel)?;
-    exchange.accepted = true;
+    exchange.old = None;
     Ok(())
 }

@@ -58,7 +58,7 @@ impl Reading {
         ensures same { result ≡ self.value }
         ensures range { InRange result }
     {
-        self.value as i32
+        i32::from(self.value)
     }
 
     // The reading of a magnitude, which is minus unless `plus`.
@@ -70,5 +70,13 @@ impl Reading {
         Reading {
             value: if plus { amount } else { -amount },
         }
+    }
+}
+
+impl From<Reading> for i16 {
+    ghost from_gives = { λ r z. z ≡ r.value };
+
+    fn from(reading: Reading) -> i16 {
+        reading.value
     }
 }

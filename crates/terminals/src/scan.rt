@@ -9,7 +9,7 @@ fn input_at<T: Terminals>(t: &T, place: u8) -> i16
     requires { place < 8 }
     ensures { result ≡ slice_index_or (T.Terminals.inputs t.now) place (pos 0) }
 {
-    t.input(place + 1).unwrap().value() as i16
+    i16::from(t.input(place + 1).unwrap())
 }
 
 // The readings of inputs 1 to 8.

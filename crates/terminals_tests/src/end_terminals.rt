@@ -106,7 +106,7 @@ fn a_plant_follows_its_output(rt: HostRuntime) -> Result<(), Fail> {
         plant.sample();
         assert_eq!(rt; plant.input(1)?.value(), first);
         let seen = exchange(&mut plant, signals(output, 1, 0))?;
-        assert_eq!(rt; seen.inputs[0] as i32, second);
+        assert_eq!(rt; i32::from(seen.inputs[0]), second);
         assert_eq!(rt; seen.inputs[1], 0);
         assert_eq!(rt; plant.tally(), 2);
     }

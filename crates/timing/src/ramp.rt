@@ -19,7 +19,7 @@ pub fn allowance(rate: Rate, phase: Phase) -> u32
     ensures bound { result ≤ 8000 }
 {
     let t = period(rate);
-    let f = phase.number() as u32;
+    let f = u32::from(phase.number());
     (f + 1) * 1600 / t - f * 1600 / t
 }
 

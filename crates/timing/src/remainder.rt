@@ -50,7 +50,7 @@ impl Remainder {
         ensures value { result ≡ self.value }
         ensures small { Below (divisor_of self.divisor) result }
     {
-        self.value as i32
+        i32::from(self.value)
     }
 
     pub fn divisor(self) -> Divisor

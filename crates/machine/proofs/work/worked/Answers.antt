@@ -1,4 +1,4 @@
-use Rattle.std.proofs.Common.{◌≡◌, None, ap, ◌∙◌, sym, subst, w16, w32, to_z, of_z, rules}
+use Rattle.std.proofs.Common.{◌≡◌, None, ap, ◌∙◌, sym, subst, w16, to_z, of_z, rules}
 use Rattle.std.proofs.lemmas.Int.{to_z-of_z}
 use Rattle.readings.specs.Range.{InRange}
 use Rattle.lines.specs.Commands.{Keeps, analog_view, divides_by, nearest, resulting}
@@ -10,7 +10,7 @@ returns-in_default c =
     let w = c.args.work in
     let own = c.args.own in
     let none : divides_by w.command ≡ None = search rules in
-    let reading : to_z w16 (of_z w16 (to_z w32 (of_z w32 c.value.result))) ≡ c.work_analog.result.value = search (rules, to_z-of_z) in
+    let reading : to_z w16 (of_z w16 c.from.result) ≡ c.work_analog.result.value = search (rules, to_z-of_z) in
     let remainder : to_z w16 (of_z w16 own.remainder) ≡ own.remainder = search (rules, to_z-of_z) in
     let a : to_z w16 (of_z w16 c.args.a) ≡ c.args.a = search (rules, to_z-of_z) in
     let b : to_z w16 (of_z w16 c.args.b) ≡ c.args.b = search (rules, to_z-of_z) in

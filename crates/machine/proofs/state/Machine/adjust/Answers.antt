@@ -37,7 +37,7 @@ returns c =
     let command = command_of m.program k in
     let yes : flexible command ≡ true = sym c.in-Some.ensures.answer in
     let wide : to_z w32 (of_z w32 z) ≡ z = search (rules, to_z-of_z) in
-    let within = within_from z (subst (λ x. int_lt x (negsuc 31983) ≡ false) wide c.if-number-ltminus31984.false) (subst (λ x. int_lt (pos 31984) x ≡ false) wide c.if-number-gt31984.false) in
+    let within = within_from z (subst (λ x. int_lt x (negsuc 31983) ≡ false) wide c.if-number.false) (subst (λ x. int_lt (pos 31984) x ≡ false) wide c.if-number-gt-LIMIT.false) in
     let old = get_or v.analog i blank in
     let lines =
     (λ j. lines_of (record { analog = set v.analog i (record { reading = number j; remainder = old.remainder }); bits = v.bits }))
