@@ -78,6 +78,7 @@ fn lines(heap: Global, configuration: &Configuration) -> Result<String, AllocErr
     ensures { IfOk result (λ t. string_bytes t ≡ up_to (line_text configuration.now) 256) }
 {
     let mut text = String::new(heap);
+    // `0..=255u8` was tried: its end is a branch of its own, and that proof did not close
     for line in 0..256usize {
         let row = line_entry(heap, configuration, line as u8)?;
         text.push_str(row.as_str())?;

@@ -4,7 +4,8 @@ ghost use Rattle.readings.specs.Range.{InRange, clamped, highest, lowest};
 
 use readings::reading::Reading;
 
-// Eight input readings, and the switch bits D00 to D08 as a number, D00 lowest.
+// Eight input readings, and the switch bits D00 to D08 as a number, D00 lowest. Unlike what terminals give, its inputs are
+// known to be readings; there an equation names the whole value, which a type with such a fact does not allow.
 #[derive(Clone, Copy)]
 pub struct Sample {
     pub(crate) inputs: [i16; 8],

@@ -5,6 +5,7 @@ ghost use Rattle.notation.specs.Percents.{percent_of, percent_text};
 use readings::reading::Reading;
 use std::fmt;
 
+// The sign stands apart, since the digits are those of the magnitude.
 #[derive(Clone, Copy)]
 pub struct Percent {
     minus: bool,

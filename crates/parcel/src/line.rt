@@ -6,7 +6,7 @@ ghost use Rattle.std.specs.Prelude.{◌≡◌};
 use commands::command::Command;
 use readings::word::Word;
 
-// A line as it stands in a parcel.
+// A line as it stands in a parcel. No `Line<u8>`: its first byte is a code, and which command that is depends on the side.
 #[derive(Clone, Copy, PartialEq, Eq, Debug)]
 pub struct LineBytes {
     pub code: u8,

@@ -52,8 +52,7 @@ pub fn ask_lines(bodies: &Bodies) -> Result<(), Refusal>
     ensures { verdict result ≡ lines_asked bodies.now.parcel.now bodies.now.directory 256 }
 {
     let table = bodies.directory.table.is_some();
-    for line in 0..256usize {
-        let line = line as u8;
+    for line in 0..=255u8 {
         ask_line(table, line, bodies.line(line))?;
     }
     Ok(())

@@ -1,7 +1,7 @@
-use Rattle.std.proofs.Common.{sym, ap, ◌∙◌, arith}
+use Rattle.std.proofs.Common.{sym, ap, ◌∙◌, arith, ltb-false, ltb-true}
 use Rattle.std.proofs.lemmas.Result.{err_from_is_err_and}
 use Rattle.parcel.specs.Verdicts.{◌then◌}
-use Rattle.parcel.specs.Lines.{line_at}
+use Rattle.parcel.specs.Lines.{line_at, lines_asked}
 use Rattle.parcel.proofs.FirstNo.{lines_none, lines_more, line_answer, first_no}
 use Rattle.parcel.proofs.lines.ask_lines.Goals as goal
 
@@ -22,3 +22,11 @@ loop-line-preserved c =
     let d = c.args.bodies.now.directory in
     let here = line_answer p d c.loop-line.line _ _ _ c.is_some-table.ensures c.line.ensures c.in_ok-ask_line.ensures in
     lines_more p d c.loop-line.line ∙ ap (λ v. v then line_at p d c.loop-line.line) c.loop-line.invariant ∙ sym here
+
+pub returns-in_ok-ask_line : goal.returns-in_ok-ask_line
+returns-in_ok-ask_line c =
+    let p = c.args.bodies.now.parcel.now in
+    let d = c.args.bodies.now.directory in
+    let here = line_answer p d c.loop-line.line _ _ _ c.is_some-table.ensures c.line.ensures c.in_ok-ask_line.ensures in
+    let more = lines_more p d c.loop-line.line ∙ ap (λ v. v then line_at p d c.loop-line.line) c.loop-line.invariant ∙ sym here in
+    sym more ∙ ap (lines_asked p d) (omega (arith, ltb-true, ltb-false))
