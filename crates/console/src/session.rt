@@ -88,7 +88,8 @@ fn step<I: BufRead + Drop, W: Write>(desk: &mut Desk<I, W>, text: &str) -> io::R
 pub fn converse<I: BufRead + Drop, W: Write>(desk: &mut Desk<I, W>) -> io::Result<()>
     ensures { Remembers desk.old.journal desk.new.journal }
 {
-    // No `for` over the lines: it would hold them, and each is answered on the whole desk.
+    // No `for` over the lines: it would hold them, and each is answered on the whole desk. No `while`: nothing that is
+    // proved of a stream grows less.
     for _ in 0..u64::MAX {
         let Some(bytes) = desk.lines.next() else {
             break;

@@ -16,7 +16,6 @@ use Rattle.commands.specs.declared.command.SourceKind.{SourceKind}
 use Rattle.commands.specs.declared.command.SourceKind.TheVariants as kind
 use Rattle.lines.specs.declared.source.Source.{Source}
 use Rattle.lines.specs.declared.source.Source.TheVariants.{Fixed, Line, Input, Switch}
-use Rattle.lines.specs.Commands.{as_number}
 use Rattle.lines.specs.Sources.{reading_source, bit_source, source_of}
 use Rattle.lines.specs.declared.program.Work.{Work}
 use Rattle.lines.specs.View.{Command, holds, nothing}
@@ -29,11 +28,6 @@ zero_in = omega (arith, ints)
 
 one_in : InRange (pos 1)
 one_in = omega (arith, ints)
-
--- a bit as a number
-pub number_in : (b : Bool) → InRange (as_number b)
-number_in true = one_in
-number_in false = zero_in
 
 hundred_in : InRange (pos 16000)
 hundred_in = omega (arith, ints)

@@ -1,5 +1,6 @@
 -- The lines and commands that a machine's arrays stand for, side by side.
 use Rattle.std.proofs.Common.{◌≡◌, ℕ, ◌+◌, ◌-◌, ◌<◌, false, ltb, get_or, ℤ, sym, ap, ◌∙◌, subst, ⊎_elim, arith}
+use Rattle.std.proofs.Math.Nat.{add-sub_cancel_left}
 use Rattle.std.proofs.lemmas.Int.{ints, clamps}
 use Rattle.std.proofs.lemmas.Bool.{cases_lt, cond-true, cond-false, lt-ltb, le-ltb}
 use Rattle.readings.specs.Range.{InRange}
@@ -13,15 +14,12 @@ use Rattle.machine.specs.declared.values.Values.{Values}
 use Rattle.machine.specs.Lines.{Brought, analog_held, binary_held, blank, lines_of, standing}
 use Rattle.machine.specs.Cycle.{worked_at}
 
-place_of : (i : ℕ) → 64 + i - 64 ≡ i
-place_of i = omega arith
-
 pub command_analog : (p : Program) (i : ℕ) → i < 192 → command_of p (64 + i) ≡ analog_command p.table (get_or p.analog i idle_analog)
 command_analog p i h =
     let c = λ (j : ℕ). analog_command p.table (get_or p.analog j idle_analog) in
     cond-true (ltb (64 + i) 256) _ _ (lt-ltb (64 + i) 256 (omega arith))
     ∙ cond-false (ltb (64 + i) 64) _ (c (64 + i - 64)) (le-ltb (64 + i) 64 (omega arith))
-    ∙ ap c (place_of i)
+    ∙ ap c (add-sub_cancel_left 64 i)
 
 pub command_binary : (p : Program) (k : ℕ) → k < 64 → command_of p k ≡ binary_command (get_or p.binary k idle_binary)
 command_binary p k h =
@@ -30,7 +28,7 @@ command_binary p k h =
 pub lines_analog : (v : Values) (i : ℕ) → lines_of v (64 + i) ≡ analog_held (get_or v.analog i blank)
 lines_analog v i =
     let h = λ (j : ℕ). analog_held (get_or v.analog j blank) in
-    cond-false (ltb (64 + i) 64) _ (h (64 + i - 64)) (le-ltb (64 + i) 64 (omega arith)) ∙ ap h (place_of i)
+    cond-false (ltb (64 + i) 64) _ (h (64 + i - 64)) (le-ltb (64 + i) 64 (omega arith)) ∙ ap h (add-sub_cancel_left 64 i)
 
 pub lines_binary : (v : Values) (k : ℕ) → k < 64 → lines_of v k ≡ binary_held (get_or v.bits k false)
 lines_binary v k h = cond-true (ltb k 64) _ (analog_held (get_or v.analog (k - 64) blank)) (lt-ltb k 64 h)

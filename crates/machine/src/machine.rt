@@ -34,8 +34,8 @@ fn cleared(own: AnalogValue) -> AnalogValue
     ensures { result ≡ without_remainder own }
 {
     AnalogValue {
-        reading: own.reading,
         remainder: 0,
+        ..own
     }
 }
 

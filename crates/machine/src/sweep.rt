@@ -40,6 +40,7 @@ impl Machine {
     pub(crate) fn sweep(&mut self, sample: &Sample)
         ensures { state_of self.new ≡ swept_lines (brought sample.now) descending (state_of self.old) }
     {
+        // By place and from the last, as the order of the sweep is, and in place.
         for place in (0..192).rev() {
             self.work_place(place, sample);
         }

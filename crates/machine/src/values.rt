@@ -2,7 +2,8 @@
 ghost use Rattle.machine.specs.Lines.{lines_of};
 ghost use Rattle.std.specs.Prelude.{◌≡◌};
 
-// The reading of an analog line, and the remainder that an integrator or a delay keeps.
+// The reading of an analog line, and the remainder that an integrator or a delay keeps. Both are plain numbers, since an
+// equation names them whole, which a type with a fact does not allow; that they are in range is a fact of `Machine`.
 #[derive(Clone, Copy)]
 pub struct AnalogValue {
     pub reading: i16,

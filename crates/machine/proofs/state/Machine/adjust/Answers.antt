@@ -1,6 +1,6 @@
-use Rattle.std.proofs.Common.{◌≡◌, ◌+◌, ◌<◌, Bool, true, false, ◌&&◌, get_or, length, set, pos, negsuc, int_lt, sym, ap, ◌∙◌, subst, arith, ℕ, w16, w32, to_z, of_z, rules}
+use Rattle.std.proofs.Common.{◌≡◌, ◌+◌, ◌<◌, true, false, ◌&&◌, get_or, length, set, pos, negsuc, int_lt, sym, ap, ◌∙◌, subst, arith, ℕ, w16, w32, to_z, of_z, rules}
 use Rattle.std.proofs.lemmas.Int.{ints, to_z-of_z}
-use Rattle.std.proofs.lemmas.Bool.{cond-true}
+use Rattle.std.proofs.lemmas.Bool.{and_from, cond-true}
 use Rattle.readings.specs.Range.{InRange}
 use Rattle.lines.specs.Board.{command_of}
 use Rattle.lines.specs.Programs.{idle_analog}
@@ -46,8 +46,5 @@ returns c =
     ∙ ap (λ (n : ℕ). put (lines_of v) n (with_value z (lines_of v n))) at in
     record {
       answer = sym (cond-true (flexible command) _ _ yes ∙ cond-true (within_limit z) _ _ within);
-      state = (λ j. with_lines (lines j) (state_of m)) ∙ sym (cond-true (flexible command && within_limit z) (adjusted_lines k z (state_of m)) (state_of m) (both yes within));
+      state = (λ j. with_lines (lines j) (state_of m)) ∙ sym (cond-true (flexible command && within_limit z) (adjusted_lines k z (state_of m)) (state_of m) (and_from _ _ yes within));
     }
-  where
-    both : {a b : Bool} → a ≡ true → b ≡ true → (a && b) ≡ true
-    both p q = λ j. p j && q j
