@@ -6,7 +6,7 @@ ghost use Rattle.std.specs.Prelude.{◌≡◌, refl};
 
 use crate::command::SourceKind::{Bit, Reading};
 use crate::command::{Analog, Command, Operands, Requirement};
-use crate::settings::{DIVISORS, FACTOR_NAMES, FACTORS, RATES, divisor_names, rate_name};
+use crate::settings::{DIVISORS, FACTORS, RATES, divisor_names, factor_name, rate_name};
 
 impl Command for Analog {
     ghost decoded = { analog_of };
@@ -85,7 +85,7 @@ impl Command for Analog {
             Analog::Ta0 => "TA0",
             Analog::Fix => "FIX",
             Analog::Flx => "FLX",
-            Analog::Scale(factor) => FACTOR_NAMES[factor as usize],
+            Analog::Scale(factor) => factor_name(factor),
             Analog::LimitRate(rate) => rate_name(rate),
             Analog::Integrate(divisor) => divisor_names(divisor).0,
             Analog::Delay(divisor) => divisor_names(divisor).1,

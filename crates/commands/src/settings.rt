@@ -1,5 +1,5 @@
 // The settings in the order of their codes, and the names of the commands that carry them.
-ghost use Rattle.commands.specs.Properties.{delay_name, integrator_name, rate_name};
+ghost use Rattle.commands.specs.Properties.{delay_name, factor_name, integrator_name, rate_name};
 ghost use Rattle.std.specs.Prelude.{◌≡◌};
 
 use readings::settings::{Divisor, Factor, Rate};
@@ -52,11 +52,28 @@ pub(crate) const DIVISORS: [Divisor; 8] = [
     Divisor::D30000,
 ];
 
-// the names of scalings, in the order of the factors
-pub(crate) const FACTOR_NAMES: [&str; 16] = [
-    "K.1", "K/8", "K/5", "K/4", "K/3", "K/2", "K02", "K03", "K04", "K05", "K08", "K10", "K20",
-    "K40", "K50", "KHU",
-];
+pub(crate) fn factor_name(factor: Factor) -> &'static str
+    ensures { result.now ≡ factor_name factor }
+{
+    match factor {
+        Factor::Tenth => "K.1",
+        Factor::Eighth => "K/8",
+        Factor::Fifth => "K/5",
+        Factor::Quarter => "K/4",
+        Factor::Third => "K/3",
+        Factor::Half => "K/2",
+        Factor::Times2 => "K02",
+        Factor::Times3 => "K03",
+        Factor::Times4 => "K04",
+        Factor::Times5 => "K05",
+        Factor::Times8 => "K08",
+        Factor::Times10 => "K10",
+        Factor::Times20 => "K20",
+        Factor::Times40 => "K40",
+        Factor::Times50 => "K50",
+        Factor::Times100 => "KHU",
+    }
+}
 
 pub(crate) fn rate_name(rate: Rate) -> &'static str
     ensures { result.now ≡ rate_name rate }

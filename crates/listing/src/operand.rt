@@ -16,10 +16,10 @@ pub enum Written {
     Bytes(Word),
 }
 
-impl Written {
-    pub fn of(word: Word) -> Written
-        ensures { result ≡ written_of word }
-    {
+impl From<Word> for Written {
+    ghost from_gives = { λ word x. x ≡ written_of word };
+
+    fn from(word: Word) -> Written {
         match Percent::of(word.reading()) {
             Some(percent) => Written::Number(percent),
             None => Written::Bytes(word),
@@ -58,7 +58,7 @@ impl Operand {
         let (sr1, sr2) = (line.sr1, line.sr2);
         match line.command.operands() {
             Operands::Unused if sr1 == 0 && sr2 == 0 => None,
-            Operands::Constant => Some(Operand::Constant(Written::of(line.word()))),
+            Operands::Constant => Some(Operand::Constant(Written::from(line.word()))),
             Operands::First(_) if sr2 == 0 => Some(Operand::One(sr1)),
             _ => Some(Operand::Two(sr1, sr2)),
         }

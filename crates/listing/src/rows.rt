@@ -41,10 +41,9 @@ impl fmt::Display for TableRow {
     ghost output = { λ x. Some (table_row_text x.place x.word) };
 
     fn fmt<W: fmt::Write>(&self, f: &mut fmt::Formatter<W>) -> fmt::Result {
-        let tens = self.place / 10;
-        let ones = self.place % 10;
-        let written = Written::of(self.word);
-        write!(f, "TABLE {tens}{ones} : {written}")
+        let place = self.place;
+        let written = Written::from(self.word);
+        write!(f, "TABLE {place:02} : {written}")
     }
 }
 
@@ -78,9 +77,8 @@ fn lines(heap: Global, configuration: &Configuration) -> Result<String, AllocErr
     ensures { IfOk result (λ t. string_bytes t ≡ up_to (line_text configuration.now) 256) }
 {
     let mut text = String::new(heap);
-    // `0..=255u8` was tried: its end is a branch of its own, and that proof did not close
-    for line in 0..256usize {
-        let row = line_entry(heap, configuration, line as u8)?;
+    for line in 0..=255u8 {
+        let row = line_entry(heap, configuration, line)?;
         text.push_str(row.as_str())?;
     }
     Ok(text)

@@ -5,11 +5,9 @@ ghost use Rattle.notation.specs.Percents.{percent_of, percent_text};
 use readings::reading::Reading;
 use std::fmt;
 
-// The sign stands apart, since the digits are those of the magnitude.
 #[derive(Clone, Copy)]
 pub struct Percent {
-    minus: bool,
-    tenths: u16,
+    tenths: i16,
 }
 
 impl Percent {
@@ -17,13 +15,12 @@ impl Percent {
     pub fn of(reading: Reading) -> Option<Percent>
         ensures { result ≡ percent_of reading.value }
     {
-        let magnitude = reading.value().unsigned_abs();
-        if magnitude % 16 != 0 {
+        let value = reading.value();
+        if value % 16 != 0 {
             return None;
         }
         Some(Percent {
-            minus: reading.value() < 0,
-            tenths: (magnitude / 16) as u16,
+            tenths: (value / 16) as i16,
         })
     }
 }
@@ -32,9 +29,9 @@ impl fmt::Display for Percent {
     ghost output = { λ x. Some (percent_text x) };
 
     fn fmt<W: fmt::Write>(&self, f: &mut fmt::Formatter<W>) -> fmt::Result {
-        let sign = if self.minus { '-' } else { '+' };
+        let sign = if self.tenths < 0 { '-' } else { '+' };
         // `{:03}` would write four digits of a number past 999, and nothing here bounds the tenths
-        let tenths = self.tenths;
+        let tenths = self.tenths.unsigned_abs();
         write!(
             f,
             "{sign}{}{}{}.{}",

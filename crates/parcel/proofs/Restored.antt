@@ -3,9 +3,10 @@ use Rattle.std.proofs.Common.{◌≡◌, ℕ, ◌<◌, ◌≢◌, List, length, 
 use Rattle.std.proofs.lemmas.List.{ext_get_or, length-set, get_or-set_same, get_or-set_other}
 use Rattle.std.proofs.lemmas.Bool.{cases_eq}
 use Rattle.parcel.specs.declared.line.LineBytes.{LineBytes}
-use Rattle.parcel.specs.declared.trial.Places.{Places}
+use Rattle.parcel.specs.declared.bodies.Places.{Places}
 use Rattle.parcel.specs.Verdicts.{Verdict, refused}
-use Rattle.parcel.specs.Trial.{with_line, line_in, kept}
+use Rattle.parcel.specs.Lines.{line_in}
+use Rattle.parcel.specs.Trial.{with_line, kept}
 
 -- a write of what stands in ys
 mended : (xs ys : List ℕ) (i m : ℕ) → m < length xs → (m ≢ i → get_or xs m 0 ≡ get_or ys m 0) → get_or (set xs i (get_or ys i 0)) m 0 ≡ get_or ys m 0

@@ -4,3 +4,4 @@ pub mod Words
 pub mod Lines
 pub mod Parcel
 pub mod Trial
+pub mod Bodies

@@ -1,11 +1,12 @@
 -- The questions about each line.
-use Rattle.std.specs.Prelude.{ℕ, zero, suc, ◌+◌, ◌*◌, Bool, cond, List, is_some, Some, None, Option, nat_le, nat_lt, slice_index, unsigned_abs}
+use Rattle.std.specs.Prelude.{ℕ, zero, suc, ◌+◌, ◌*◌, ◌<◌, Bool, cond, List, is_some, Some, None, Option, nat_le, nat_lt, slice_index, unsigned_abs}
 use Rattle.readings.specs.Words.{constant_reading}
 use Rattle.commands.specs.declared.command.Analog.{Analog}
 use Rattle.commands.specs.declared.command.Requirement.{Requirement}
 use Rattle.commands.specs.declared.command.Requirement.TheVariants.{Nothing, UpperLine, Table, Range}
 use Rattle.commands.specs.Codes.{analog_of, binary_of}
 use Rattle.commands.specs.Properties.{requirement_of}
+use Rattle.parcel.specs.declared.bodies.Places.{Places}
 use Rattle.parcel.specs.declared.contents.Directory.{Directory}
 use Rattle.parcel.specs.declared.line.LineBytes.{LineBytes}
 use Rattle.parcel.specs.Verdicts.{Verdict, taken, refused, question, ◌then◌}
@@ -34,9 +35,23 @@ analog_asked table a b = command_asked table a b (analog_of b.code)
 abbrev pub line_asked : Bool → (line : ℕ) → LineBytes → Verdict
 line_asked table a b = cond (nat_lt a 0x40) (question 21 (Some a) (is_some (binary_of b.code))) (analog_asked table a b)
 
+-- where the three bytes of a line stand
+abbrev pub places_in : Directory → (line : ℕ) → Places
+places_in d a = record { code = d.codes + a; sr1 = d.sr1 + a; sr2 = d.sr2 + a }
+
+-- they stand within n bytes
+pub record Inside (at : Places) (n : ℕ) : Type 0 where
+  pub code : at.code < n
+  pub sr1 : at.sr1 < n
+  pub sr2 : at.sr2 < n
+
+-- the three bytes
+abbrev pub line_in : List ℕ → Places → LineBytes
+line_in p at = record { code = slice_index p at.code; sr1 = slice_index p at.sr1; sr2 = slice_index p at.sr2 }
+
 -- a line's bytes in a parcel whose bodies begin at d
 abbrev pub bytes_at : List ℕ → Directory → (line : ℕ) → LineBytes
-bytes_at p d a = record { code = slice_index p (d.codes + a); sr1 = slice_index p (d.sr1 + a); sr2 = slice_index p (d.sr2 + a) }
+bytes_at p d a = line_in p (places_in d a)
 
 -- the line at an address of a parcel
 abbrev pub line_at : List ℕ → Directory → (line : ℕ) → Verdict

@@ -1,14 +1,12 @@
 // The bodies of a parcel, where its contents list says that they lie.
-ghost use Rattle.std.specs.Prelude.{◌≡◌, ◌+◌, ◌*◌, ◌<◌, ◌≤◌, length, IfOk, None, nat_le};
-ghost use Rattle.parcel.specs.Contents.{Within, bodies_asked, contents_asked, directory_of, entries, places_of};
+ghost use Rattle.std.specs.Prelude.{◌≡◌, ◌+◌, ◌*◌, ◌<◌, ◌≤◌, length};
+ghost use Rattle.parcel.specs.Contents.{Within};
 ghost use Rattle.std.proofs.Props.{props};
-ghost use Rattle.parcel.specs.Lines.{bytes_at};
+ghost use Rattle.parcel.specs.Lines.{Inside, bytes_at, places_in};
 ghost use Rattle.parcel.specs.Parcel.{line_of, lines_of, table_at, words_at};
-ghost use Rattle.parcel.specs.Verdicts.{question, verdict, ◌then◌};
 
-use crate::contents::{Contents, Directory};
+use crate::contents::Directory;
 use crate::line::{Line, LineBytes};
-use crate::refusal::Refusal;
 use commands::command::Command;
 use readings::word::Word;
 use std::array;
@@ -19,6 +17,14 @@ pub(crate) struct Bodies<'a> {
     pub parcel: &'a [u8],
     pub directory: Directory,
     ghost within: { Within directory (length parcel.now) } by { Prim.hlevel props },
+}
+
+// Where the three bytes of a line stand in a parcel.
+#[derive(Clone, Copy)]
+pub(crate) struct Places {
+    pub code: usize,
+    pub sr1: usize,
+    pub sr2: usize,
 }
 
 // The words of a table that begins at this byte.
@@ -33,15 +39,28 @@ fn words_at(parcel: &[u8], at: usize) -> [Word; 17]
 }
 
 impl Bodies<'_> {
+    // Where the bytes of a line stand.
+    pub fn places(&self, line: u8) -> Places
+        ensures place { result ≡ places_in self.now.directory line }
+        ensures inside { Inside result (length self.now.parcel.now) }
+    {
+        let line = usize::from(line);
+        Places {
+            code: self.directory.codes + line,
+            sr1: self.directory.sr1 + line,
+            sr2: self.directory.sr2 + line,
+        }
+    }
+
     // The bytes of a line.
     pub fn line(&self, line: u8) -> LineBytes
         ensures { result ≡ bytes_at self.now.parcel.now self.now.directory line }
     {
-        let line = usize::from(line);
+        let at = self.places(line);
         LineBytes {
-            code: self.parcel[self.directory.codes + line],
-            sr1: self.parcel[self.directory.sr1 + line],
-            sr2: self.parcel[self.directory.sr2 + line],
+            code: self.parcel[at.code],
+            sr1: self.parcel[at.sr1],
+            sr2: self.parcel[at.sr2],
         }
     }
 
@@ -69,33 +88,5 @@ impl Bodies<'_> {
                 ensures { result ≡ words_at parcel.entry.now at 17 }
             { words_at(parcel, at) },
         )
-    }
-}
-
-// The bodies that a list of N entries names.
-fn listed<const N: usize>(parcel: &[u8]) -> Result<Bodies<'_>, Refusal>
-    requires { N ≤ 4 }
-    ensures answer { verdict result ≡ (question 12 None (nat_le (1 + 3 * N) (length parcel.now)) then bodies_asked (entries parcel.now N) (1 + 3 * N) (length parcel.now)) }
-    ensures whole { IfOk result (λ b. b.parcel.now ≡ parcel.now) }
-    ensures places { IfOk result (λ b. b.directory ≡ places_of (entries parcel.now N) (1 + 3 * N)) }
-{
-    let contents = Contents::<N>::read(parcel)?;
-    contents.ask(parcel.len())?;
-    Ok(Bodies {
-        parcel,
-        directory: contents.directory(),
-    })
-}
-
-// The questions about the contents list; the bodies, if each is answered with yes.
-pub(crate) fn bodies_of(parcel: &[u8]) -> Result<Bodies<'_>, Refusal>
-    ensures answer { verdict result ≡ contents_asked parcel.now }
-    ensures whole { IfOk result (λ b. b.parcel.now ≡ parcel.now) }
-    ensures places { IfOk result (λ b. b.directory ≡ directory_of parcel.now) }
-{
-    match parcel {
-        [3, ..] => listed::<3>(parcel),
-        [4, ..] => listed::<4>(parcel),
-        _ => Err(Refusal::BadCount),
     }
 }

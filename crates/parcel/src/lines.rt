@@ -7,6 +7,7 @@ use crate::bodies::Bodies;
 use crate::line::LineBytes;
 use crate::refusal::Refusal;
 use commands::command::{Analog, Binary, Command, Requirement};
+use readings::reading::Reading;
 
 // One question: a no gives its refusal.
 fn ask(yes: bool, refusal: Refusal) -> Result<(), Refusal>
@@ -19,7 +20,7 @@ fn ask(yes: bool, refusal: Refusal) -> Result<(), Refusal>
 fn within_limit(bytes: LineBytes) -> bool
     ensures { result ≡ within_limit bytes }
 {
-    bytes.word().constant().value().unsigned_abs() <= 31984
+    bytes.word().constant().value().abs() <= Reading::LIMIT
 }
 
 // The questions about an analog line, in a parcel with a table or without.

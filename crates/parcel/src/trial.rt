@@ -1,34 +1,14 @@
 // Trials: one line of a parcel is exchanged, and the old one put back if load would then refuse.
 ghost use Rattle.std.specs.Prelude.{◌≡◌, length};
 ghost use Rattle.parcel.specs.Parcel.{asked};
-ghost use Rattle.parcel.specs.Trial.{Inside, exchanged, kept, places_in, tried, with_line, with_old};
+ghost use Rattle.parcel.specs.Trial.{exchanged, kept, tried, with_line, with_old};
+ghost use Rattle.parcel.specs.Lines.{Inside};
 ghost use Rattle.parcel.specs.Verdicts.{verdict};
 
-use crate::bodies::Bodies;
+use crate::bodies::Places;
 use crate::line::LineBytes;
-use crate::questions::questions;
+use crate::questions::{check, questions};
 use crate::refusal::Refusal;
-
-// Where the three bytes of a line stand in a parcel.
-#[derive(Clone, Copy)]
-struct Places {
-    code: usize,
-    sr1: usize,
-    sr2: usize,
-}
-
-// Where the bytes of a line stand among these bodies.
-fn places_in(bodies: &Bodies, line: u8) -> Places
-    ensures place { result ≡ places_in bodies.now.directory line }
-    ensures inside { Inside result (length bodies.now.parcel.now) }
-{
-    let at = usize::from(line);
-    Places {
-        code: bodies.directory.codes + at,
-        sr1: bodies.directory.sr1 + at,
-        sr2: bodies.directory.sr2 + at,
-    }
-}
 
 fn put(parcel: &mut [u8], at: Places, line: LineBytes)
     requires { Inside at (length parcel.old) }
@@ -64,13 +44,13 @@ impl Drop for Exchange<'_> {
     }
 }
 
-// Load's questions about bytes that are lent for writing; they are only read.
+// What `check` answers about bytes that are lent for writing. The guard's proof needs the clause `same`, which a call of `check`
+// on its field does not give.
 fn ask(parcel: &mut [u8]) -> Result<(), Refusal>
     ensures answer { verdict result ≡ asked parcel.old }
     ensures same { parcel.new ≡ parcel.old }
 {
-    questions(parcel)?;
-    Ok(())
+    check(parcel)
 }
 
 // Would load take the parcel with this line in place of its own? If so the new bytes stay, else the parcel is as before.
@@ -79,7 +59,7 @@ pub fn trial(parcel: &mut [u8], line: u8, new: LineBytes) -> Result<(), Refusal>
     ensures bytes { parcel.new ≡ kept (tried parcel.old line new) (exchanged parcel.old line new) parcel.old }
 {
     let bodies = questions(parcel)?;
-    let at = places_in(&bodies, line);
+    let at = bodies.places(line);
     let old = bodies.line(line);
     put(parcel, at, new);
     let mut exchange = Exchange {

@@ -15,8 +15,8 @@ pub fn ask(parcel: &Vec<u8>) -> (u8, u8) {
     answer(check(parcel.as_slice()))
 }
 
-fn length_of(kind: u8) -> (u8, u8) {
-    if kind == 4 { (34, 0) } else { (0, 1) }
+fn length_of(kind: u8) -> u16 {
+    if kind == 4 { 34 } else { 256 }
 }
 
 // A parcel of zeros with bodies of these kinds, in this order.
@@ -24,24 +24,18 @@ pub fn blank(heap: Global, kinds: &[u8]) -> Result<Vec<u8>, AllocError> {
     let mut parcel = Vec::new(heap);
     parcel.push((kinds.len() & 0xff) as u8)?;
     for kind in kinds {
-        let (low, high) = length_of(*kind);
         parcel.push(*kind)?;
-        parcel.push(low)?;
-        parcel.push(high)?;
+        parcel.extend_from_slice(&length_of(*kind).to_le_bytes())?;
     }
     for kind in kinds {
-        let (low, high) = length_of(*kind);
-        fill(&mut parcel, usize::from(low) + 256 * usize::from(high))?;
+        fill(&mut parcel, usize::from(length_of(*kind)))?;
     }
     Ok(parcel)
 }
 
 // So many zeros more.
 pub fn fill(parcel: &mut Vec<u8>, count: usize) -> Result<(), AllocError> {
-    for _ in 0..count {
-        parcel.push(0)?;
-    }
-    Ok(())
+    parcel.resize(parcel.len().saturating_add(count), 0)
 }
 
 pub fn put(parcel: &mut Vec<u8>, at: usize, byte: u8) {

@@ -1,6 +1,6 @@
 use Rattle.std.proofs.Common.{sym}
 use Rattle.parcel.proofs.Bounds.{bodies_within}
-use Rattle.parcel.proofs.bodies.listed.Goals as goal
+use Rattle.parcel.proofs.questions.listed.Goals as goal
 
 pub invariant_of-result : goal.invariant_of-result
 invariant_of-result g c =
