@@ -1,11 +1,10 @@
 -- Laws of quotients and roots.
-use Rattle.std.proofs.Common.{◌≡◌, ℕ, zero, suc, ◌+◌, ◌*◌, ◌^◌, ◌<◌, ◌≤◌, Bool, true, false, cond, leb, ◌⊎◌, ◌≢◌, ℤ, pos, negsuc, ◌+ℤ◌, ◌-ℤ◌, ◌*ℤ◌, neg_ℤ, nat_abs, ◌≤ℤ◌, ◌<ℤ◌, refl, inl, inr, ⊎_elim, pow-suc, arith}
-use Rattle.std.proofs.lemmas.Int.{ints, quot-rem, rem_below, unsigned_abs-mul}
+use Rattle.std.proofs.Common.{◌≡◌, ℕ, zero, suc, ◌+◌, ◌*◌, ◌^◌, ◌<◌, ◌≤◌, Bool, true, false, cond, leb, ◌⊎◌, ◌≢◌, ℤ, pos, negsuc, ◌*ℤ◌, neg_ℤ, nat_abs, ◌≤ℤ◌, ◌<ℤ◌, refl, inl, inr, ⊎_elim, pow-suc, arith}
+use Rattle.std.proofs.lemmas.Int.{ints, rem_below, unsigned_abs-mul}
 use Rattle.std.proofs.lemmas.Nat.{mul-le}
 use Rattle.std.proofs.lemmas.Bool.{leb-true, leb-false, cases_lt}
-use Rattle.std.specs.Prelude.{int_div, int_rem}
 use Rattle.readings.specs.Range.{InRange}
-use Rattle.readings.proofs.Whole.{quotient_within}
+use Rattle.readings.proofs.Whole.{quotient_within, rem-rest}
 use Rattle.arithmetic.specs.Quotients.{QuotientLaw, Small, quotient, root, root_from}
 use Rattle.arithmetic.specs.Operations.{square_root}
 
@@ -58,11 +57,8 @@ quotient_small n d h = quotient_within n d 1073741823 h.0 h.1
 
 pub quotient_law : QuotientLaw
 unfolding quotient
-quotient_law n d ne = rw (left (int_div n d *ℤ d) (int_rem n d) (quot-rem n d)) (rem_below n d (nonzero d ne))
+quotient_law n d ne = rw (rem-rest n d) at (rem_below n d (nonzero d ne))
   where
-    left : (x r : ℤ) → x +ℤ r ≡ n → n -ℤ x ≡ r
-    left x r e = omega (arith, ints)
-
     nonzero : (d : ℤ) → d ≢ pos 0 → 0 < nat_abs d
     nonzero (pos zero) ne = absurd (ne refl)
     nonzero (pos (suc d)) ne = omega arith

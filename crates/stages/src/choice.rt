@@ -19,12 +19,6 @@ impl Choice {
     pub(crate) fn lowest_low(self, values: &[i16; 8]) -> Option<u8>
         ensures { result ≡ lowest_low self.0 0 values.now }
     {
-        for (place, value) in values.iter().enumerate() {
-            let number = place as u8 + 1;
-            if self.has(number) && *value < -1600 {
-                return Some(number);
-            }
-        }
-        None
+        (1..9u8).find(|number| self.has(*number) && values[usize::from(*number) - 1] < -1600)
     }
 }

@@ -9,8 +9,7 @@ pub fn raised(fault: Fault) -> Fault
     ensures { result ≡ raised fault }
 {
     Fault {
-        cause: fault.cause,
-        input: fault.input,
         distance: fault.distance.saturating_add(1),
+        ..fault
     }
 }

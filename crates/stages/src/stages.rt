@@ -40,6 +40,7 @@ impl<T: Terminals> Stage<T, Flooring> {
     }
 }
 
+// Not one `new` for both: a rule would come of a choice through one more public trait, whose contract says what these two do.
 impl<T: Terminals> Stage<T, Watching> {
     // Input 1 is the lowest bit of `chosen`.
     pub fn new(below: T, chosen: u8) -> Watch<T>

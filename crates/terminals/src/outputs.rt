@@ -12,7 +12,7 @@ pub struct Signals {
     pub digital: u16,
 }
 
-// Two output readings, and the thirteen output bits as a number, Q00 lowest.
+// Two output readings, and the thirteen output bits as a number, Q00 lowest. The fields stand here too, for who reads outputs would otherwise write `signals.first`.
 #[derive(Clone, Copy)]
 pub struct Outputs {
     pub first: Reading,

@@ -1,28 +1,19 @@
 // The bench and the plant.
+use crate::given::signals;
 use ends::bench::Bench;
 use ends::plant::Plant;
-use readings::reading::Reading;
 use std::test::Fail;
 use terminals::exchange::exchange;
 use terminals::faults::{Fault, PutRefusal};
 use terminals::frames::{Frame, FrameRefusal};
 use terminals::framing::Framed;
 use terminals::interface::Terminals;
-use terminals::outputs::Signals;
 
 fn frame(input: i32, bits: u32, cause: u32) -> Frame {
     Frame {
         inputs: [0, 0, 0, 0, 0, 0, 0, input],
         bits,
         cause,
-    }
-}
-
-fn signals(first: i32, second: i32, digital: u16) -> Signals {
-    Signals {
-        first: Reading::nearest(first),
-        second: Reading::nearest(second),
-        digital,
     }
 }
 

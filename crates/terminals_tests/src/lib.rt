@@ -4,4 +4,6 @@
 #[cfg(test)]
 mod end_terminals;
 #[cfg(test)]
+mod given;
+#[cfg(test)]
 mod stacked;

@@ -1,7 +1,7 @@
 // Stacks of stages.
+use crate::given::signals;
 use ends::bench::Bench;
 use ends::plant::Plant;
-use readings::reading::Reading;
 use stages::stacks::{distance_through, floor_over_watch, watch_over_floor, watch_over_watch};
 use stages::stages::{Floor, Watch};
 use std::test::Fail;
@@ -10,21 +10,12 @@ use terminals::faults::{Fault, PutRefusal};
 use terminals::frames::Frame;
 use terminals::framing::Framed;
 use terminals::interface::Terminals;
-use terminals::outputs::Signals;
 
 fn frame(second: i32, cause: u32) -> Frame {
     Frame {
         inputs: [-1, second, -2000, 0, 0, 0, 0, 0],
         bits: 3,
         cause,
-    }
-}
-
-fn signals(first: i32, digital: u16) -> Signals {
-    Signals {
-        first: Reading::nearest(first),
-        second: Reading::nearest(0),
-        digital,
     }
 }
 
@@ -41,7 +32,7 @@ fn fault(cause: u8, input: Option<u8>, distance: u8) -> Result<(), Fault> {
 fn a_floor_over_a_watch(rt: HostRuntime) -> Result<(), Fail> {
     let mut stack = Floor::new(Watch::new(Bench::new(), 0b011), 0b001);
     stack.frame(frame(-1600, 0))?;
-    let seen = exchange(&mut stack, signals(800, 8191))?;
+    let seen = exchange(&mut stack, signals(800, 0, 8191))?;
     assert_eq!(rt;
         (seen.inputs[0], seen.inputs[1], seen.inputs[2]),
         (0, -1600, -2000)
@@ -55,10 +46,13 @@ fn a_floor_over_a_watch(rt: HostRuntime) -> Result<(), Fail> {
         distance: 1,
     };
     assert_eq!(rt;
-        stack.put(signals(0, 8191)),
+        stack.put(signals(0, 0, 8191)),
         Err(PutRefusal::LinkDown(down))
     );
-    assert_eq!(rt; stack.put(signals(0, 8192)), Err(PutRefusal::DigitalOver));
+    assert_eq!(rt;
+        stack.put(signals(0, 0, 8192)),
+        Err(PutRefusal::DigitalOver)
+    );
     stack.frame(frame(-1601, 99))?;
     assert!(rt; take(&mut stack).is_err());
     assert_eq!(rt; stack.link(), fault(99, None, 2));
@@ -106,12 +100,12 @@ fn faults_climb(rt: HostRuntime) {
 #[test]
 fn two_watches_over_a_plant(rt: HostRuntime) -> Result<(), Fail> {
     let mut stack = Watch::new(Watch::new(Plant::new(), 0b1), 0b1);
-    stack.put(signals(-25616, 0))?;
+    stack.put(signals(-25616, 0, 0))?;
     stack.sample();
     assert_eq!(rt; stack.input(1).is_ok(), true);
     assert_eq!(rt; watch_over_watch(&stack), fault(100, Some(1), 1));
     let mut upper = Watch::new(Watch::new(Plant::new(), 0b0), 0b1);
-    upper.put(signals(-25600, 0))?;
+    upper.put(signals(-25600, 0, 0))?;
     upper.sample();
     assert_eq!(rt; watch_over_watch(&upper), Ok(()));
     upper.sample();

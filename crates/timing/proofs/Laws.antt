@@ -1,14 +1,15 @@
 -- Laws of the divisors, and of division that keeps its remainder.
 use Rattle.std.proofs.Common.{◌≡◌, ℕ, suc, ◌+◌, ◌-◌, ◌/◌, ◌<◌, ◌≤◌, ℤ, pos, negsuc, ◌+ℤ◌, ◌-ℤ◌, ◌*ℤ◌, ◌≤ℤ◌, refl, subst, add-mul, arith}
 use borrow.Author.Differences.{up, down}
-use Rattle.std.proofs.lemmas.Int.{ints, clamps, quot-rem, rem_below}
+use Rattle.std.proofs.lemmas.Int.{ints, clamps, rem_below}
 use Rattle.std.proofs.lemmas.Nat.{mul-le, div_below}
 use Rattle.readings.specs.declared.settings.Divisor.{Divisor}
 use Rattle.readings.specs.declared.settings.Divisor.TheVariants.{D10, D40, D100, D250, D1200, D4800, D12000, D30000}
 use Rattle.timing.specs.Divisors.{Below, cut, divisor, rest}
-use Rattle.std.specs.Prelude.{int_div, int_rem}
+use Rattle.std.specs.Prelude.{int_rem}
 use Rattle.std.specs.Int.{int_min, int_max}
 use Rattle.readings.specs.Range.{InRange}
+use Rattle.readings.proofs.Whole.{rem-rest}
 use Rattle.timing.specs.Ramps.{Between, toward}
 
 -- every divisor is 1 at least
@@ -29,10 +30,7 @@ cut-rest n d = omega (arith, ints)
 
 pub rem_is_rest : (n d : ℤ) → int_rem n d ≡ rest n d
 unfolding cut rest
-rem_is_rest n d = left (int_div n d *ℤ d) (int_rem n d) (quot-rem n d)
-  where
-    left : (x r : ℤ) → x +ℤ r ≡ n → r ≡ n -ℤ x
-    left x r e = omega (arith, ints)
+rem_is_rest = rem-rest
 
 pub rest_within : (n d : ℤ) → pos 1 ≤ℤ d → Below d (rest n d)
 rest_within n d p = subst (Below d) (rem_is_rest n d) (omega (arith, ints, rem_below n d (omega (arith, ints))))

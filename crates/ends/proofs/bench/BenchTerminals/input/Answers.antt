@@ -1,7 +1,8 @@
-use Rattle.std.proofs.Common.{◌<◌, length, get_or, pos, sym, ◌∙◌, subst, arith, w32, SFits}
-use Rattle.std.proofs.lemmas.Int.{ints, to_z-of_z}
+use Rattle.std.proofs.Common.{◌<◌, length, get_or, pos, sym, ◌∙◌, subst, arith}
+use Rattle.std.proofs.lemmas.Int.{ints}
 use Rattle.std.proofs.lemmas.Bool.Decides.{nat_tests}
 use Rattle.readings.specs.Range.{InRange}
+use Rattle.readings.proofs.Whole.{back}
 use Rattle.ends.proofs.ListLaws.{reading_at}
 use Rattle.ends.proofs.bench.BenchTerminals.input.Goals as goal
 
@@ -11,7 +12,6 @@ returns c =
     let k = c.in_ok-place.place in
     let below : k < length zs = omega (arith, c.in_ok-place.ensures.below) in
     let here = reading_at zs k below c.args.self.now.shown_lawful.1 in
-    let fits : SFits w32 (get_or zs k (pos 0)) = omega (arith, ints) in
-    let back = to_z-of_z w32 (get_or zs k (pos 0)) fits in
-    let value = c.nearest.ensures.same (subst InRange (sym back) here) ∙ back in
+    let same = back (get_or zs k (pos 0)) (omega (arith, ints)) in
+    let value = c.nearest.ensures.same (subst InRange (sym same) here) ∙ same in
     grind (arith, nat_tests)
