@@ -44,6 +44,7 @@ impl Command for Analog {
             0x4D => Analog::Qua,
             0x4E => Analog::Rad,
             0x50 => Analog::Ta0,
+            // `as`: through `usize::from` the proof did not close
             0x58..=0x67 => Analog::Scale(FACTORS[code as usize - 0x58]),
             0x68..=0x73 => Analog::LimitRate(RATES[code as usize - 0x68]),
             0x74..=0x7B => Analog::Integrate(DIVISORS[code as usize - 0x74]),

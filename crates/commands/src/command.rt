@@ -80,7 +80,8 @@ pub enum Operands {
     Both(SourceKind, SourceKind),
 }
 
-// What load asks of a line because of its command, besides that its side has it.
+// What load asks of a line because of its command, besides that its side has it. No Option: that nothing is asked is one of the
+// answers, and each command gives one.
 #[derive(Clone, Copy, PartialEq, Eq, Debug)]
 pub enum Requirement {
     Nothing,
@@ -102,7 +103,7 @@ pub trait Command: Copy {
 
     ghost sources: { Self → Operands };
 
-    // The command that the code stands for on a line of this side.
+    // The command that the code stands for on a line of this side. No TryFrom: nobody would read its error.
     fn decode(code: u8) -> Option<Self>
         ensures { result ≡ decoded code };
 

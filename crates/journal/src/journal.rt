@@ -24,10 +24,10 @@ struct Answers {
 }
 
 // How often each refusal was given, by its number. No map: that would want memory, and a count may not fail.
-#[derive(Clone, Copy)]
+#[derive(Clone, Copy, Default)]
 struct Refusals([u32; NUMBERS]);
 
-#[derive(Clone, Copy)]
+#[derive(Clone, Copy, Default)]
 pub struct Journal {
     read: Traffic,
     saved: Traffic,
@@ -71,13 +71,7 @@ impl Journal {
     pub fn new() -> Journal
         ensures { result ≡ blank }
     {
-        Journal {
-            read: Traffic::default(),
-            saved: Traffic::default(),
-            answers: Answers::default(),
-            refusals: Refusals([0; NUMBERS]),
-            wrong: 0,
-        }
+        Journal::default()
     }
 
     // A parcel of so many bytes was read.

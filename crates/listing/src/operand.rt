@@ -9,7 +9,8 @@ use parcel::line::Line;
 use readings::word::Word;
 use std::fmt;
 
-// A word in percent, or its two bytes where it is no whole number of tenths or places a decimal point.
+// A word in percent, or its two bytes where it is no whole number of tenths or places a decimal point. No Result: neither is
+// an error.
 #[derive(Clone, Copy)]
 pub enum Written {
     Number(Percent),

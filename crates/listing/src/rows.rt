@@ -84,6 +84,7 @@ fn lines(heap: Global, configuration: &Configuration) -> Result<String, AllocErr
     Ok(text)
 }
 
+// No loop is shared with `lines`: the contract of a closure that can fail would be longer than a loop.
 fn points(heap: Global, words: &[Word; 17]) -> Result<String, AllocError>
     ensures { IfOk result (λ t. string_bytes t ≡ up_to (point_text words.now) 17) }
 {

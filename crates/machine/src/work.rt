@@ -25,7 +25,7 @@ fn remainder(divisor: Divisor, m: i16) -> Remainder
     Remainder::new(divisor, i32::from(m)).unwrap_or(Remainder::zero(divisor))
 }
 
-// The reading that a number at a source is.
+// The reading that a number at a source is. That of `lines` takes any number; here it is known to be one.
 fn reading(number: i16) -> Reading
     requires { InRange number }
     ensures { result.value ≡ number }

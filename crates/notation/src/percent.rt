@@ -30,7 +30,8 @@ impl fmt::Display for Percent {
 
     fn fmt<W: fmt::Write>(&self, f: &mut fmt::Formatter<W>) -> fmt::Result {
         let sign = if self.tenths < 0 { '-' } else { '+' };
-        // `{:03}` would write four digits of a number past 999, and nothing here bounds the tenths
+        // `{:03}` would write four digits of a number past 999, and a fact that bounds the tenths would keep the contract of
+        // `of` from naming its result whole
         let tenths = self.tenths.unsigned_abs();
         write!(
             f,

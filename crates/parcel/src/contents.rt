@@ -22,7 +22,7 @@ pub(crate) struct Entry {
     pub size: u16,
 }
 
-// Where the bodies begin.
+// Where the bodies begin. Numbers and no slices, since a trial writes at them.
 #[derive(Clone, Copy)]
 pub(crate) struct Directory {
     pub codes: usize,
@@ -145,6 +145,7 @@ impl<const N: usize> Contents<N> {
     fn end(&self) -> usize
         ensures { result ≡ ends self.now.entries (1 + 3 * N) }
     {
+        // tried as `map(..).sum()`: the proof that the sum fits did not close
         let mut at = 1 + 3 * N;
         for e in &self.entries {
             at += usize::from(e.size);

@@ -44,8 +44,8 @@ impl Drop for Exchange<'_> {
     }
 }
 
-// What `check` answers about bytes that are lent for writing. The guard's proof needs the clause `same`, which a call of `check`
-// on its field does not give.
+// What `check` answers about bytes that are lent for writing.
+// The guard's proof needs the clause `same`: `check` called on its field was tried, and did not give it.
 fn ask(parcel: &mut [u8]) -> Result<(), Refusal>
     ensures answer { verdict result ≡ asked parcel.old }
     ensures same { parcel.new ≡ parcel.old }

@@ -3,7 +3,8 @@ use parcel::questions::check;
 use parcel::refusal::Refusal;
 use std::alloc::{AllocError, Global};
 
-// What is expected of a parcel: 0 where it is taken, else the refusal's number; and the line named, 0 for none.
+// What is expected of a parcel, in numbers as the tables of the tests have it: 0 where it is taken, else the refusal's; and the
+// line named, 0 for none.
 pub fn answer(res: Result<(), Refusal>) -> (u8, u8) {
     match res {
         Ok(()) => (0, 0),
@@ -15,6 +16,7 @@ pub fn ask(parcel: &Vec<u8>) -> (u8, u8) {
     answer(check(parcel.as_slice()))
 }
 
+// Kinds are bytes, since the tests write wrong ones.
 fn length_of(kind: u8) -> u16 {
     if kind == 4 { 34 } else { 256 }
 }
