@@ -1,6 +1,6 @@
 -- What the console's answers say of the parcel buffer, and what a command leaves of it.
-use Rattle.std.specs.Prelude.{◌≡◌, ℕ, List, Ok, Err, Result}
-use Rattle.journal.specs.Journals.{after_wrong}
+use Rattle.std.specs.Prelude.{◌≡◌, ℕ, Bool, List, Ok, Err, Result}
+use Rattle.journal.specs.Journals.{after_wrong, any_wrong}
 use Rattle.journal.specs.declared.journal.Journal.{Journal}
 use Rattle.parcel.specs.Trial.{tried, exchanged, kept}
 use Rattle.parcel.specs.Verdicts.{Verdict, taken, refused, number_of, address_of}
@@ -37,6 +37,10 @@ BufferAfter Lines p q = q ≡ p
 BufferAfter (Trial a l) p q = q ≡ kept (tried p a l) (exchanged p a l) p
 BufferAfter Report p q = q ≡ p
 BufferAfter Help p q = q ≡ p
+
+-- the flag is up exactly if the journal counts a wrong command
+abbrev pub Agrees : Journal → (failed : Bool) → Type 0
+Agrees j f = f ≡ any_wrong j
 
 -- the journal once a command is answered: a complaint counts it as wrong
 abbrev pub after_reply : Journal → Result Reply Complaint → Journal

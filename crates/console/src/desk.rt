@@ -1,11 +1,11 @@
-// What the console keeps: its streams, the parcel buffer and the journal.
-ghost use Rattle.console.specs.Desks.{after_reply, answer_of, reply_to, told};
-ghost use Rattle.journal.specs.Journals.{Remembers, after_answer, after_read, after_save, after_wrong, any_wrong, blank};
+// What the console keeps: its streams, the parcel buffer, the journal, and whether a command was wrong.
+ghost use Rattle.console.specs.Desks.{Agrees, after_reply, answer_of, reply_to, told};
+ghost use Rattle.journal.specs.Journals.{Remembers, after_answer, after_read, after_save, after_wrong, blank};
 ghost use Rattle.parcel.specs.Parcel.{asked};
 ghost use Rattle.parcel.specs.Trial.{exchanged, kept, tried};
 ghost use Rattle.script.specs.Commands.{cannot_read, cannot_write, objection};
 ghost use Rattle.script.specs.declared.reply.Reply.TheVariants.{Done, Bytes};
-ghost use Rattle.std.specs.Prelude.{◌≡◌, true, false, [], MatchResult, OnErr, OnOk, vec_len};
+ghost use Rattle.std.specs.Prelude.{◌≡◌, true, false, [], Ok, Err, MatchResult, OnErr, OnOk, vec_len};
 
 use journal::journal::Journal;
 use parcel::line::LineBytes;
@@ -24,13 +24,15 @@ pub struct Desk<I, W> {
     pub out: W,
     pub parcel: Vec<u8>,
     pub journal: Journal,
+    // beside the count, so that a command which is counted and not complained of is refused
+    pub failed: bool,
 }
 
 impl<I: BufRead + Drop, W: Write> Desk<I, W> {
     pub fn new(rt: HostRuntime, input: I, out: W) -> Desk<I, W>
         ensures buffer { result.parcel.items ≡ [] }
         ensures journal { result.journal ≡ blank }
-        ensures failed { any_wrong result.journal ≡ false }
+        ensures failed { result.failed ≡ false }
     {
         let heap = rt.alloc();
         Desk {
@@ -39,14 +41,8 @@ impl<I: BufRead + Drop, W: Write> Desk<I, W> {
             out,
             parcel: Vec::new(heap),
             journal: Journal::new(),
+            failed: false,
         }
-    }
-
-    // Whether some command was wrong.
-    pub fn failed(&self) -> bool
-        ensures { result ≡ any_wrong self.now.journal }
-    {
-        self.journal.any_wrong()
     }
 
     // The file's bytes become the buffer.
@@ -55,6 +51,7 @@ impl<I: BufRead + Drop, W: Write> Desk<I, W> {
         ensures read { OnOk result (self.new.journal ≡ after_read self.old.journal (vec_len self.new.parcel)) }
         ensures same { OnErr result (self.new.parcel ≡ self.old.parcel) }
         ensures unread { OnErr result (self.new.journal ≡ self.old.journal) }
+        ensures failed { self.new.failed ≡ self.old.failed }
     {
         let bytes = fs::read(&self.rt, file).map_err(|_| Complaint::CannotRead(file))?;
         let n = bytes.len();
@@ -68,6 +65,7 @@ impl<I: BufRead + Drop, W: Write> Desk<I, W> {
         ensures saved { OnOk result (self.new.journal ≡ after_save self.old.journal (vec_len self.old.parcel)) }
         ensures unsaved { OnErr result (self.new.journal ≡ self.old.journal) }
         ensures same { self.new.parcel ≡ self.old.parcel }
+        ensures failed { self.new.failed ≡ self.old.failed }
     {
         fs::write(&self.rt, file, self.parcel.as_slice()).map_err(|_| Complaint::CannotWrite(
             file,
@@ -81,6 +79,7 @@ impl<I: BufRead + Drop, W: Write> Desk<I, W> {
         ensures value { result ≡ reply_to answer }
         ensures noted { self.new.journal ≡ after_answer self.old.journal answer }
         ensures same { self.new.parcel ≡ self.old.parcel }
+        ensures failed { self.new.failed ≡ self.old.failed }
     {
         self.journal.answered(answer);
         match answer {
@@ -93,6 +92,7 @@ impl<I: BufRead + Drop, W: Write> Desk<I, W> {
         ensures answer { told result ≡ asked self.old.parcel.items }
         ensures noted { self.new.journal ≡ after_answer self.old.journal (answer_of result) }
         ensures same { self.new.parcel ≡ self.old.parcel }
+        ensures failed { self.new.failed ≡ self.old.failed }
     {
         let answer = check(self.parcel.as_slice());
         self.judge(answer)
@@ -102,6 +102,7 @@ impl<I: BufRead + Drop, W: Write> Desk<I, W> {
         ensures answer { told result ≡ tried self.old.parcel.items line new }
         ensures noted { self.new.journal ≡ after_answer self.old.journal (answer_of result) }
         ensures bytes { self.new.parcel.items ≡ kept (tried self.old.parcel.items line new) (exchanged self.old.parcel.items line new) self.old.parcel.items }
+        ensures failed { self.new.failed ≡ self.old.failed }
     {
         let answer = trial(self.parcel.as_mut_slice(), line, new);
         self.judge(answer)
@@ -111,6 +112,7 @@ impl<I: BufRead + Drop, W: Write> Desk<I, W> {
     pub(crate) fn reply(&mut self, reply: Reply) -> io::Result<()>
         ensures same { self.new.parcel ≡ self.old.parcel }
         ensures noted { self.new.journal ≡ self.old.journal }
+        ensures failed { self.new.failed ≡ self.old.failed }
     {
         writeln!(self.out, "{reply}")
     }
@@ -118,9 +120,11 @@ impl<I: BufRead + Drop, W: Write> Desk<I, W> {
     pub(crate) fn complain(&mut self, complaint: Complaint<'_>) -> io::Result<()>
         ensures same { self.new.parcel ≡ self.old.parcel }
         ensures noted { self.new.journal ≡ after_wrong self.old.journal }
-        ensures failed { any_wrong self.new.journal ≡ true }
+        ensures failed { self.new.failed ≡ true }
+        ensures agrees { Agrees self.new.journal self.new.failed }
         ensures remembers { Remembers self.old.journal self.new.journal }
     {
+        self.failed = true;
         self.journal.wrong();
         writeln!(self.out, "error: {complaint}")
     }
@@ -128,6 +132,7 @@ impl<I: BufRead + Drop, W: Write> Desk<I, W> {
     pub(crate) fn answer(&mut self, answer: Result<Reply, Complaint<'_>>) -> io::Result<()>
         ensures same { self.new.parcel ≡ self.old.parcel }
         ensures noted { self.new.journal ≡ after_reply self.old.journal answer.entry }
+        ensures failed { self.new.failed ≡ elim answer.entry [ Ok x ↦ self.old.failed | Err e ↦ true ] }
         ensures remembers { Remembers self.old.journal self.new.journal }
     {
         match answer {

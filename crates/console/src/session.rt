@@ -1,5 +1,5 @@
 // A conversation: line by line, until the input ends.
-ghost use Rattle.console.specs.Desks.{BufferAfter};
+ghost use Rattle.console.specs.Desks.{Agrees, BufferAfter};
 ghost use Rattle.journal.specs.Journals.{Remembers};
 ghost use Rattle.std.specs.Prelude.{◌≡◌};
 
@@ -16,6 +16,7 @@ use std::str::from_utf8;
 // The rows of the listing, or the refusal alone.
 fn list<I: BufRead + Drop, W: Write>(desk: &mut Desk<I, W>) -> io::Result<()>
     ensures same { desk.new.parcel ≡ desk.old.parcel }
+    ensures agrees { Agrees desk.old.journal desk.old.failed → Agrees desk.new.journal desk.new.failed }
     ensures remembers { Remembers desk.old.journal desk.new.journal }
 {
     let answer = read(desk.parcel.as_slice());
@@ -31,6 +32,7 @@ fn list<I: BufRead + Drop, W: Write>(desk: &mut Desk<I, W>) -> io::Result<()>
 
 fn obey<I: BufRead + Drop, W: Write>(desk: &mut Desk<I, W>, command: Command<'_>) -> io::Result<()>
     ensures buffer { BufferAfter command.entry desk.old.parcel.items desk.new.parcel.items }
+    ensures agrees { Agrees desk.old.journal desk.old.failed → Agrees desk.new.journal desk.new.failed }
     ensures remembers { Remembers desk.old.journal desk.new.journal }
 {
     match command {
@@ -64,7 +66,8 @@ fn obey<I: BufRead + Drop, W: Write>(desk: &mut Desk<I, W>, command: Command<'_>
 
 // Answers one line, unless it is blank or a comment.
 fn step<I: BufRead + Drop, W: Write>(desk: &mut Desk<I, W>, text: &str) -> io::Result<()>
-    ensures { Remembers desk.old.journal desk.new.journal }
+    ensures agrees { Agrees desk.old.journal desk.old.failed → Agrees desk.new.journal desk.new.failed }
+    ensures remembers { Remembers desk.old.journal desk.new.journal }
 {
     if text.starts_with('#') {
         return Ok(());
@@ -86,7 +89,8 @@ fn step<I: BufRead + Drop, W: Write>(desk: &mut Desk<I, W>, text: &str) -> io::R
 
 // Answers every line of the input.
 pub fn converse<I: BufRead + Drop, W: Write>(desk: &mut Desk<I, W>) -> io::Result<()>
-    ensures { Remembers desk.old.journal desk.new.journal }
+    ensures agrees { Agrees desk.old.journal desk.old.failed → Agrees desk.new.journal desk.new.failed }
+    ensures remembers { Remembers desk.old.journal desk.new.journal }
 {
     // No `for` over the lines: it would hold them, and each is answered on the whole desk. No `while`: nothing that is
     // proved of a stream grows less.

@@ -13,7 +13,7 @@ fn answer<I: Read + Drop>(rt: &HostRuntime, input: I) -> anyhow::Result<bool> {
     let mut desk = Desk::new(rt.clone()?, BufReader::new(rt.alloc(), input)?, out);
     converse(&mut desk)?;
     desk.out.flush()?;
-    Ok(desk.failed())
+    Ok(desk.failed)
 }
 
 fn run(rt: &HostRuntime) -> anyhow::Result<bool> {

@@ -8,7 +8,7 @@ fn talk(rt: HostRuntime, script: &[u8]) -> Result<(String, bool), Fail> {
     let mut desk = Desk::new(rt, script, Vec::<u8>::new(heap));
     converse(&mut desk)?;
     let text = String::from_utf8(desk.out.clone()?)?;
-    Ok((text, desk.failed()))
+    Ok((text, desk.failed))
 }
 
 #[test]
