@@ -8,6 +8,7 @@ ghost use Rattle.readings.specs.Range.{InRange};
 
 use crate::sample::Sample;
 use crate::state::Machine;
+use crate::values::as_number;
 use lines::source::Source;
 
 impl Sample {
@@ -22,7 +23,7 @@ impl Sample {
     fn switch(&self, number: u8) -> i16
         ensures { result ≡ as_number (switch_of self.now.bits number) }
     {
-        i16::from(number < 9 && (self.bits >> number) % 2 == 1)
+        as_number(number < 9 && (self.bits >> number) % 2 == 1)
     }
 }
 

@@ -10,7 +10,6 @@ use crate::sample::Sample;
 use crate::state::Machine;
 use crate::work::worked;
 use lines::work::work_binary;
-use std::array;
 
 impl Machine {
     // Works the analog line at this place from 40H on what stands.
@@ -50,6 +49,10 @@ impl Machine {
     pub(crate) fn decide(&mut self, sample: &Sample)
         ensures { state_of self.new ≡ decided (brought sample.now) (state_of self.old) }
     {
-        self.values.bits = array::from_fn(|line| self.work_bit(line, sample));
+        let mut bits = [false; 64];
+        for line in 0..64 {
+            bits[line] = self.work_bit(line, sample);
+        }
+        self.values.bits = bits;
     }
 }

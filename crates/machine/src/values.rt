@@ -1,4 +1,5 @@
 // What the lines hold.
+ghost use Rattle.lines.specs.Commands.{as_number};
 ghost use Rattle.machine.specs.Lines.{lines_of};
 ghost use Rattle.std.specs.Prelude.{◌≡◌};
 
@@ -17,6 +18,13 @@ pub struct Values {
     pub bits: [bool; 64],
 }
 
+// What a bit counts as where a number is asked for.
+pub(crate) fn as_number(bit: bool) -> i16
+    ensures { result ≡ as_number bit }
+{
+    i16::from(bit)
+}
+
 impl Values {
     // What the line at this address holds; a bit is 0 or 1.
     pub(crate) fn line(&self, address: u8) -> i16
@@ -24,7 +32,7 @@ impl Values {
     {
         let at = usize::from(address);
         if at < 0x40 {
-            return i16::from(self.bits[at]);
+            return as_number(self.bits[at]);
         }
         self.analog[at - 0x40].reading
     }
